@@ -1,7 +1,7 @@
 /* The symbols of malloc over balloc's heaps. What decides is crates/balloc_malloc; here is what that can't have: a thread's
  * own variables, its first call and its end, and the names. Nothing of ours stands among the caller's memory: whose each
- * page of a heap is, and how many words its pieces have, is noted aside. Only a seat's thread makes calls with it: others put
- * what they free on its list. What no seat gives is the C library's, and goes back there. README.md has the rest. */
+ * page of a heap is, and how many words its pieces have, is noted aside. Only a seat's thread makes calls with it: what others
+ * free comes to it in bundles. What no seat gives is the C library's, and goes back there. README.md has the rest. */
 #include "balloc_malloc.h"
 #include <dlfcn.h>
 #include <errno.h>
@@ -14,107 +14,102 @@
 #include <sys/sysinfo.h>
 #define EXPORT __attribute__((visibility("default")))
 #define COUNT(at) atomic_store_explicit(&(at), (at) + 1, memory_order_relaxed) /* by one thread; others only look */
-enum { HEAPS = 256, SEATS = 16, SHARED = 4, DEPTH = 8, FRAMES = 512, LONGEST = 32, SIZES = 51, DONE = BALLOC_MALLOC_DONE };
-static const size_t WORD = 8, PAGE = 1 << 14, FRAME = 1 << 15, SLOT = 1 << 28, ALL = (size_t)HEAPS << 28, MOST = 2048;
+enum { HEAPS = 256, SEATS = 16, SHARED = 4, DEPTH = 8, FRAMES = 512, SIZES = 129, WAYS = 32, DONE = BALLOC_MALLOC_DONE };
+static const size_t WORD = 8, PAGE = 1 << 14, FRAME = 1 << 15, SLOT = 1 << 28, ALL = (size_t)HEAPS << 28, MOST = 2048, SHIFT = 48;
 extern void *__libc_malloc(size_t), *__libc_calloc(size_t, size_t), *__libc_realloc(void *, size_t);
 extern void *__libc_memalign(size_t, size_t), __libc_free(void *);
 typedef struct seat { /* what others read, what its thread alone writes, and what others write are apart */
     _Alignas(64) _Atomic(void *) owner; /* the `me` of its thread; NULL where it is free */
     struct seat *next;                  /* a thread's seats stand in a ring */
-    balloc_seat *pass; size_t number;
+    balloc_seat *pass; size_t number, mark; /* of its pages' notes */
     _Alignas(64) _Atomic size_t given[SIZES], freed[SIZES], awaits; /* its heap refused: asked first again once as many are freed */
-    _Alignas(64) _Atomic(void **) list; /* what other threads freed: in each stands where the next one is */
+    _Alignas(64) _Atomic(struct parcel *) list; /* what other threads freed */
 } seat;
+typedef struct parcel { balloc_bundle bundle; struct parcel *next; seat *to; size_t count; uint16_t sizes[BALLOC_MALLOC_MOST_PIECES]; } parcel;
 static balloc_seat passes[HEAPS * SEATS]; static seat seats[HEAPS * SEATS]; static pthread_key_t at_end;
 static size_t sizes[HEAPS]; static _Atomic size_t opened, region = 1ull << 63; /* where the heaps' slots begin; first, nowhere */
 static uint16_t notes[HEAPS << 14]; /* of each page: its seat in the heap, and in the lower 11 bits the size of its pieces */
 static atomic_flag door = ATOMIC_FLAG_INIT; /* who finds it closed uses the C library; so may a forked child for ever */
-static _Thread_local struct { seat *first; size_t from; /* a seat of its own; from this heap on it looks for another one */
-    seat *to; void **top, **last; size_t count; } me;   /* what it freed that will go on another's list, all at once */
+static _Thread_local struct { seat *first; size_t from; parcel *packed[WAYS], *spare; int spares; } me; /* its first seat is from below that heap */
 static inline size_t place_of(void *p) { return (size_t)p - region; } static inline int is_ours(void *p) { return place_of(p) < ALL; }
 static inline size_t seat_at(size_t place) { return place / SLOT * SEATS + notes[place / PAGE] / 2048; }
 static inline size_t size_at(size_t place) { return notes[place / PAGE] % 2048; }
+static inline size_t first_at(size_t place) { return place % SLOT / WORD - 1; } /* a heap's memory begins a word behind its slot */
 static inline size_t bytes_of(void *p) { return WORD * size_at(place_of(p)); }
 /* What the library asks for is the C library's; but a heap's words, far more than all else, begin its slot as it opens. */
 void *glue_malloc(size_t n)
 {
     void *slot = (void *)(region + opened * SLOT);
-    return n < FRAMES * FRAME ? __libc_malloc(n) : n <= SLOT && !mprotect(slot, n, PROT_READ | PROT_WRITE) ? slot : NULL;
+    return n < FRAMES * FRAME ? __libc_malloc(n) : n <= SLOT && !mprotect(slot - SHIFT, n + SHIFT, PROT_READ | PROT_WRITE) ? slot : NULL;
 }
 void glue_free(void *p) { if (!is_ours(p)) __libc_free(p); }
-/* The sizes of pieces are numbered as in crates/memory_cache. */
-static inline size_t number_of(size_t n) { return n <= 64 ? n / 2 - 1 : n <= 256 ? 27 + n / 16 : n <= 1022 ? 51 - 2047 / n : 50; }
-static size_t words_of(size_t k) { return k < 32 ? 2 * k + 2 : k < 44 ? 16 * (k - 27) : k < 50 ? 1023 / (51 - k) * 2 : 2047; }
+/* Pieces have an even number of words, up to those of MOST bytes: half as many is the number of their size. */
 static size_t sum(_Atomic size_t *counts) { size_t all = 0; for (int k = 0; k < SIZES; k++) all += counts[k]; return all; }
 static inline uint32_t take(seat *s, size_t n, void **p)
 {
-    uint32_t size = balloc_malloc_take(s->pass, n, p);
-    if (size >= BALLOC_MALLOC_CAUSES) return size;
-    uint16_t note = s->number % SEATS << 11 | size, *noted = &notes[place_of(*p) / PAGE];
-    if (*noted != note) *noted = note; /* mostly it stands there already, and others read those beside it */
-    return COUNT(s->given[number_of(size)]), size;
+    uint32_t size = balloc_malloc_take(s->pass, n, p); if (size >= BALLOC_MALLOC_CAUSES) return size;
+    uint16_t note = s->mark | size, *noted = &notes[place_of(*p) / PAGE]; if (*noted != note) *noted = note; /* others read it */
+    return COUNT(s->given[size / 2]), size;
 }
-static inline void give(seat *s, size_t place) /* a heap's memory begins a word behind its slot */
+static inline void give(seat *s, size_t at) { COUNT(s->freed[size_at(at) / 2]), balloc_malloc_give(s->pass, first_at(at), size_at(at)); }
+static void send(parcel *p) { if (p) for (p->next = p->to->list; !atomic_compare_exchange_weak(&p->to->list, &p->next, p);); }
+static __attribute__((noinline)) void give_or_pack(size_t place) /* sent at once where no end of the thread will be told */
 {
-    COUNT(s->freed[number_of(size_at(place))]), balloc_malloc_give(s->pass, place % SLOT / WORD - 1, size_at(place));
-}
-static void push(void) { if (me.count) for (void **at = me.to->list; *me.last = at, !atomic_compare_exchange_weak(&me.to->list, &at, me.top);); }
-static __attribute__((noinline)) void give_or_push(void **p) /* by LONGEST at once, where the thread's end will be told */
-{
-    seat *s = &seats[seat_at(place_of(p))];
+    seat *s = &seats[seat_at(place)]; parcel **way = &me.packed[seat_at(place) % WAYS], *p = *way;
     if (s->owner != &me) {
-        if (me.to != s || me.count == LONGEST) push(), me.count = 0;
-        *p = me.top, me.top = p, me.last = me.count++ ? me.last : p, me.to = s;
-        if (!me.first) push(), me.count = 0;
-    } else if (give(s, place_of(p)), s->awaits && sum(s->freed) >= s->awaits) me.first = s, s->awaits = 0;
+        if (p && p->to != s) send(p), p = NULL;
+        if (!p) p = me.spare ? me.spares--, me.spare : __libc_calloc(1, sizeof(parcel)), me.spare = p ? p->next : NULL;
+        if (!(*way = p)) return; /* no memory to note it in: it isn't used again */
+        p->to = s, p->sizes[p->count] = size_at(place), p->count = balloc_malloc_put(&p->bundle, first_at(place), size_at(place));
+        if (!me.first || p->count == BALLOC_MALLOC_MOST_PIECES) send(p), *way = NULL;
+    } else if (give(s, place), s->awaits && sum(s->freed) >= s->awaits) me.first = s, s->awaits = 0;
 }
 EXPORT void free(void *p)
 {
-    size_t place = place_of(p);
-    if (place >= ALL) return __libc_free(p);
-    if (me.first && me.first->number == seat_at(place)) give(me.first, place); else give_or_push(p);
+    size_t place = place_of(p); if (place >= ALL) return __libc_free(p);
+    if (me.first && me.first->number == seat_at(place)) give(me.first, place); else give_or_pack(place);
 }
 static void leave(void *first) /* at the thread's end */
 {
-    push(), me.count = me.from = 0, me.first = NULL; for (seat *s = first, *next; s; s = next != first ? next : NULL) next = s->next, s->owner = NULL;
+    for (int i = 0; i < WAYS; i++) { send(me.packed[i]), me.packed[i] = NULL; } for (parcel *p; (p = me.spare); __libc_free(p)) me.spare = p->next;
+    me.spares = me.from = 0, me.first = NULL; for (seat *s = first, *next; s; s = next != first ? next : NULL) next = s->next, s->owner = NULL;
 }
 static int open_heap(size_t h) /* the first one takes the addresses of all; what is opened since others refused is larger */
 {
     const int how = MAP_PRIVATE | MAP_ANONYMOUS | MAP_NORESERVE, frames = FRAMES << (me.from < 3 ? me.from : 3);
     void *words, *all = region >> 63 ? mmap(NULL, ALL + SLOT, PROT_NONE, how, -1, 0) : NULL;
     if (h == HEAPS || all == MAP_FAILED || (all && pthread_key_create(&at_end, leave))) return 0;
-    if (all) region = ((size_t)all + SLOT - 1) / SLOT * SLOT;
+    if (all) region = ((size_t)all + SLOT - 1) / SLOT * SLOT + SHIFT;
     return DONE == balloc_malloc_open(frames, SHARED, DEPTH, &passes[h * SEATS], SEATS, &words, &sizes[h])
         && (size_t)words == region + h * SLOT + WORD;
 }
 static seat *sit(void) /* on a seat of a heap where this thread has none */
 {
-    size_t i = me.from * SEATS;
-    if (me.from > HEAPS || atomic_flag_test_and_set(&door)) return NULL;
+    size_t i = me.from * SEATS; if (me.from > HEAPS || atomic_flag_test_and_set(&door)) return NULL;
     while (i < opened * SEATS && seats[i].owner) i++;
-    if (i == opened * SEATS && open_heap(opened)) opened++;
-    if (i == 1) mallopt(M_ARENA_MAX, get_nprocs()); /* the C library's: threads ask less of it */
+    opened += i == opened * SEATS && open_heap(opened); if (i == 1) mallopt(M_ARENA_MAX, get_nprocs()); /* threads ask less of it */
     seat *found = i < opened * SEATS && !pthread_setspecific(at_end, &seats[i]) ? &seats[i] : NULL;
     me.from = found ? i / SEATS + 1 : HEAPS + 1; /* where there is none it looks no more */
     if (found) found->next = me.first ? me.first->next : found, *(me.first ? &me.first->next : &me.first) = found;
-    if (found) found->pass = &passes[i], found->number = i, found->owner = &me;
+    if (found) found->pass = &passes[i], found->number = i, found->mark = i % SEATS << 11, found->owner = &me;
     return atomic_flag_clear(&door), found;
 }
 static __attribute__((noinline)) void *search(size_t n) /* from seat to seat of the ring, and then on new ones */
 {
     uint32_t code = DONE; seat *s = n > MOST ? NULL : me.first ? me.first : sit();
     for (; s; s = s->next != me.first ? s->next : code == BALLOC_MALLOC_REFUSED || code == BALLOC_MALLOC_SPENT ? sit() : NULL) {
-        void **p = atomic_exchange(&s->list, NULL);
-        for (void **next; p; p = next) next = *p, give(s, place_of(p));
-        if ((code = take(s, n, (void **)&p)) < BALLOC_MALLOC_CAUSES) return me.first = s, p;
+        void *p; for (parcel *b = atomic_exchange(&s->list, NULL), *next; b; b = next) {
+            for (next = b->next; b->count; b->count--) COUNT(s->freed[b->sizes[b->count - 1] / 2]);
+            if (!balloc_malloc_empty(s->pass, &b->bundle)) { if (me.spares > WAYS) __libc_free(b); else b->next = me.spare, me.spare = b, me.spares++; }
+        }
+        if ((code = take(s, n, &p)) < BALLOC_MALLOC_CAUSES) return me.first = s, p;
         s->awaits = sum(s->freed) + (sum(s->given) - sum(s->freed)) / 8 + 1;
     }
     return __libc_malloc(n);
 }
 EXPORT void *malloc(size_t n)
 {
-    seat *s = me.first; void *p;
-    return s && n <= MOST && !s->list && take(s, n, &p) < BALLOC_MALLOC_CAUSES ? p : search(n);
+    seat *s = me.first; void *p; return s && n <= MOST && !s->list && take(s, n, &p) < BALLOC_MALLOC_CAUSES ? p : search(n);
 }
 EXPORT void *calloc(size_t n, size_t m)
 {
@@ -124,12 +119,15 @@ EXPORT void *calloc(size_t n, size_t m)
 EXPORT void *realloc(void *p, size_t n) /* to 0 bytes it frees, as the C library's does */
 {
     if (!is_ours(p)) return p ? __libc_realloc(p, n) : malloc(n);
-    size_t had = bytes_of(p);
-    if (n && n <= had && n >= had / 2) return p;
+    size_t had = bytes_of(p); if (n && n <= had && n >= had / 2) return p;
     void *to = n ? malloc(n) : NULL; if (to) memcpy(to, p, n < had ? n : had);
     return to || !n ? free(p), to : NULL;
 }
-EXPORT void *memalign(size_t a, size_t n) { return !a || a & (a - 1) ? errno = EINVAL, NULL : a > 16 ? __libc_memalign(a, n) : malloc(n); }
+EXPORT void *memalign(size_t a, size_t n) /* pieces of a multiple of 64 bytes lie at multiples of 64 */
+{
+    void *p = !a || a & (a - 1) ? errno = EINVAL, NULL : a > 64 || n > MOST - 63 ? __libc_memalign(a, n) : malloc(a > 16 ? (n + 63) / 64 * 64 : n);
+    return p && (size_t)p % a ? free(p), __libc_memalign(a, n) : p;
+}
 EXPORT void *aligned_alloc(size_t a, size_t n) { return memalign(a, n); }
 EXPORT int posix_memalign(void **p, size_t a, size_t n) { return a < 8 || a & (a - 1) ? EINVAL : (*p = memalign(a, n)) ? 0 : ENOMEM; }
 EXPORT size_t malloc_usable_size(void *p) { return is_ours(p) ? bytes_of(p) : ((size_t (*)(void *))dlsym(RTLD_NEXT, "malloc_usable_size"))(p); }
@@ -144,7 +142,7 @@ EXPORT void balloc_report(void) /* on standard error, also for a debugger; nothi
     }
     dprintf(2, "balloc: %lu given, %lu freed, %lu live; pages served %lu; %lu exchanges lost; %zu heaps with %lu MB of addresses\n",
             all, gone, all - gone, hits, lost, (size_t)opened, bytes >> 20);
-    for (int k = 0; k < SIZES; k++) if (given[k]) dprintf(2, "balloc: of %zu bytes %lu given, %lu live\n", WORD * words_of(k), given[k], live[k]);
+    for (int k = 0; k < SIZES; k++) if (given[k]) dprintf(2, "balloc: of %zu bytes %lu given, %lu live\n", 2 * WORD * k, given[k], live[k]);
     atomic_flag_clear(&door);
 }
 __attribute__((destructor)) static void report(void) { char *asked = getenv("BALLOC_STATS"); if (asked && !strcmp(asked, "1")) balloc_report(); }

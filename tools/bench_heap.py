@@ -25,8 +25,8 @@ heap's own pairs and those of each allocator of the machine, and prints a table:
 for a pair, in brackets by the clock, and how many times that of the best of the allocators, and of glibc, a
 pair through a cache takes.
 
-`blocks` does the same with blocks of 31 words, each allocated, filled, summed and freed: by fills and sums of the heap, and
-with plain stores and loads of memory of malloc.
+`blocks` does the same with blocks of 31 words, each allocated, filled, summed and freed, with plain stores and loads of
+memory of malloc and, ahead of the rest, of a page's pieces; and by fills and sums of the heap's blocks.
 
 `stress` makes rounds of calls of all kinds in which each block is filled and checked, with 2, 4, 8 and 16
 threads, in three heaps from roomy to crowded, and prints the counts; it ends with 1 where a word was
@@ -47,6 +47,8 @@ PROGRAM = os.path.join(timed.CRATES, "benches", "out", "benches")
 HEAP = ["1000", "4", "8"]
 STRESSED = [["256", "4", "64"], ["24", "2", "8"], ["4", "1", "2"]]
 MODES = ["bare", "steps", "hold", "pairs", "malloc"]
+BLOCK = "31"
+WAYS = [("cache", "pieces", "a page's pieces"), ("cache", "", "through a cache"), ("heap", "", "the heap's own")]
 
 MALLOC = r"""
 #include <pthread.h>
@@ -147,18 +149,19 @@ def caches(said):
     with tempfile.TemporaryDirectory() as folder:
         malloc = timed.compiled(MALLOC, "pairs", folder)
         found = timed.allocators()
-        print(timed.table_head(["threads", "through a cache", "the heap's own", *found, "to the best", "to glibc"]))
+        ways = WAYS if mode == "blocks" else WAYS[1:]
+        print(timed.table_head(["threads", *(said for _, _, said in ways), *found, "to the best", "to glibc"]))
         for threads in said.threads:
             programs = {
-                "cache": lambda count: ([PROGRAM, "cache", mode, "1", str(count), str(threads), *HEAP], None),
-                "heap": lambda count: ([PROGRAM, "heap", mode, "1", str(count), str(threads), *HEAP], None),
+                place + way: lambda count, place=place, way=way: ([PROGRAM, place, way or mode, BLOCK, str(count), str(threads), *HEAP], None)
+                for place, way, _ in ways
             }
             for name, library in found.items():
                 programs[name] = lambda count, library=library: ([malloc, mode, str(count), str(threads)], library)
             taken, _ = timed.figures(programs, said.count, said.runs)
             pair = {name: figure.of_each(threads) for name, figure in taken.items()}
             best = min(pair[name].processor for name in found)
-            ours = pair["cache"].processor
+            ours = next(iter(pair.values())).processor
             print(timed.row([threads, *pair.values(), f"{ours / best:.2f}", f"{ours / pair['glibc'].processor:.2f}"]), flush=True)
 
 

@@ -1,6 +1,6 @@
 /* Memory of the heap by pointers: two threads, each with a seat of its own. The first hands memory to the other by a
- * variable; that one writes to it and hands it back, and each gives back what its own seat told. Ends with 0 where each byte
- * was right. */
+ * variable; that one writes to it and hands it back, and each gives back what its own seat told. What the other keeps of the
+ * first one's memory it puts into a bundle, which it hands back once it is full. Ends with 0 where each byte was right. */
 #include "balloc_malloc.h"
 #include <pthread.h>
 #include <stdatomic.h>
@@ -10,7 +10,9 @@
 enum { ROUNDS = 20000, BYTES = 100 };
 
 static balloc_seat seats[2]; /* one for each thread; all zero */
-static _Atomic(unsigned char *) there, back;
+static _Atomic(unsigned char *) there, back, kept;
+static balloc_bundle bundle; /* the other thread's until it is full, then the first one's until it is empty */
+static atomic_int is_full;
 
 static void *heap; /* where its memory begins */
 
@@ -33,13 +35,15 @@ static void give(balloc_seat *seat, void *memory, uint32_t size) {
 
 static void *hand_over(void *wrong) {
     for (int round = 0; round < ROUNDS; round++) {
-        uint32_t size;
-        unsigned char *bytes = take(&seats[0], &size), *came;
-        if (!bytes) exit(3);
+        uint32_t size, too;
+        unsigned char *bytes = take(&seats[0], &size), *more = take(&seats[0], &too), *came;
+        if (!bytes || !more) exit(3);
+        atomic_store(&kept, more);
         memset(bytes, 1 + round % 100, BYTES);
         atomic_store(&there, bytes);
         while (!(came = atomic_exchange(&back, NULL))) {}
         *(int *)wrong += came != bytes || !holds(bytes, 101 + round % 100);
+        if (is_full) *(int *)wrong += balloc_malloc_empty(&seats[0], &bundle) != 0, is_full = 0;
         give(&seats[0], bytes, size);
     }
     return NULL;
@@ -52,7 +56,11 @@ static void *answer(void *wrong) {
         while (!(came = atomic_exchange(&there, NULL))) {}
         *(int *)wrong += !holds(came, 1 + round % 100);
         memset(came, 101 + round % 100, BYTES);
+        /* All that is taken of as many bytes has one size. */
+        size_t count = balloc_malloc_put(&bundle, BALLOC_MALLOC_FIRST(heap, kept), size);
+        if (count == BALLOC_MALLOC_MOST_PIECES) is_full = 1;
         atomic_store(&back, came);
+        while (is_full) {}
         if (own) give(&seats[1], own, size);
     }
     return NULL;

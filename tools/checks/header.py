@@ -29,12 +29,12 @@ PAGES = [
           "CLASSES": "CLASSES"}),
     Page("crates/balloc_malloc", "balloc_malloc.h", "BALLOC_MALLOC_", ["codes.rt"],
          {"MOST_FRAMES": "MAX_FRAMES", "MOST_HEAPS": "MAX_HEAPS", "MOST_SEATS": "MAX_CALLERS", "MOST_DEPTH": "DEEPEST",
-          "MOST_BYTES": "8 * SMALL_MOST"}),
+          "MOST_BYTES": "8 * SMALL_MOST", "MOST_PIECES": "ROOM"}),
 ]
 VERSION = ["BALLOC_VERSION_MAJOR", "BALLOC_VERSION_MINOR", "BALLOC_VERSION_PATCH"]
 TYPES = {"": "void", "bool": "bool", "u8": "uint8_t", "u32": "uint32_t", "u64": "uint64_t", "i32": "int32_t", "usize": "size_t",
          "*mut u64": "void *", "Spot": "void *", "ThreadSeat": "balloc_seat", "PassHandle": "balloc_pass",
-         "Counted": "balloc_census"}
+         "Bundle": "balloc_bundle", "Counted": "balloc_census"}
 
 
 def text_of(path):
@@ -148,12 +148,13 @@ def codes(page, header):
         named = set(re.findall(r"BALLOC_\w+", comment)) - defined(header).keys()
         for constant in sorted(named - theirs.keys()):
             yield f"{name}: its comment names {constant}, which there is not"
-        if result != "void" and not named & theirs.keys():
+        if result not in ["void", "size_t"] and not named & theirs.keys():
             yield f"{name}: its comment doesn't name its codes"
 
 
 def limits(page, header):
-    there = constants(text_of("crates/heap_geometry/src/limits.rt") + text_of(f"{page.crate}/src/opening.rt"))
+    files = ["crates/heap_geometry/src/limits.rt", f"{page.crate}/src/opening.rt", "crates/balloc_malloc/src/bundle.rt"]
+    there = constants("".join(map(text_of, files)))
     ours = {page.prefix + name: value_of(limit, there) for name, limit in page.limits.items()}
     theirs = {name: number for name, number in defined(header).items() if name not in VERSION}
     yield from differences(ours, theirs)

@@ -27,7 +27,7 @@
  * be changed (while it is 0, MINOR does), MINOR where a name or a code is added, and PATCH where all names, numbers and
  * layouts stay. A program is built with the page of the very library that it is linked with. */
 #define BALLOC_VERSION_MAJOR 0
-#define BALLOC_VERSION_MINOR 4
+#define BALLOC_VERSION_MINOR 5
 #define BALLOC_VERSION_PATCH 0
 
 #ifdef __cplusplus
@@ -104,7 +104,8 @@ enum {
  * `count` variables (1 to BALLOC_MOST_PASSES), each of which takes at most `turn_limit` turns (1 to BALLOC_MOST_TURNS):
  * a turn is one attempt of an allocation of at most 2,047 words. A pass keeps at most `depth` blocks of each size that it
  * frees in a magazine (0 to BALLOC_MOST_DEPTH; 0: none), and gives them again with no step on a word that others share:
- * they are lost to the other passes until it closes and frees its blocks.
+ * they are lost to the other passes until it closes and frees its blocks. As many of each size it keeps whose memory was
+ * out when they were freed: balloc_alloc alone gives that memory again.
  * BALLOC_DONE, BALLOC_IN_USE, BALLOC_BAD_NUMBERS, BALLOC_NO_MEMORY */
 int32_t balloc_open(uint32_t frames, uint32_t heaps, uint32_t units, uint64_t turn_limit, uint32_t depth,
                     balloc_pass *passes, size_t count);
@@ -123,7 +124,8 @@ int32_t balloc_close(balloc_pass *pass, bool frees, uint64_t *won, uint64_t *los
 int32_t balloc_counts(balloc_pass *pass, uint64_t *turns, uint64_t *won, uint64_t *lost, uint64_t *cleared);
 
 /* Allocates a block of at least so many bytes, and tells its number and where its memory begins, aligned to 16 bytes: that is
- * out, the caller's to read and write as any memory, by any thread. What is in it is some numbers. NULL where it is refused;
+ * out, the caller's to write and read as any memory, by any thread. What is in it isn't said: memory that was freed is given
+ * again as it is. NULL where it is refused;
  * where it is interrupted, balloc_resume tells the number and balloc_memory the memory.
  * BALLOC_DONE, BALLOC_CLOSED, BALLOC_IN_CALL, BALLOC_TOO_LARGE, BALLOC_NO_MEMORY, BALLOC_EXHAUSTED,
  * BALLOC_SPENT, BALLOC_INTERRUPTED */
@@ -144,8 +146,8 @@ int32_t balloc_memory(balloc_pass *pass, uint64_t id, void **memory);
  * BALLOC_DONE, BALLOC_CLOSED, BALLOC_IN_CALL, BALLOC_NO_BLOCK */
 int32_t balloc_home(balloc_pass *pass, uint64_t id);
 
-/* Frees a block: its number names none from then on, also where the free is interrupted, or where a magazine keeps the
- * block. Memory that is out comes home, whatever is in it.
+/* Frees a block: its number names none from then on, also where the free is interrupted, or where the pass keeps the
+ * block. Memory that is out comes home, whatever is in it, or is kept as it is, for balloc_alloc.
  * BALLOC_DONE, BALLOC_CLOSED, BALLOC_IN_CALL, BALLOC_NO_BLOCK, BALLOC_INTERRUPTED */
 int32_t balloc_free(balloc_pass *pass, uint64_t id);
 

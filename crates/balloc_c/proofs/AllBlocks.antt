@@ -1,10 +1,9 @@
 -- All blocks of a caller, wherever their words are, through its calls.
-use Rattle.std.proofs.Common.{ℕ, ◌≡◌, ◌≢◌, ◌++◌, ◌∙◌, ◌↔◌, List, [], ◌∷◌, Result, Ok, Err, refl, sym, ap, subst, inl, inr, append_assoc}
+use Rattle.std.proofs.Common.{ℕ, ◌≡◌, ◌++◌, ◌↔◌, List, [], ◌∷◌, Result, Ok, Err, refl, sym, ap, subst, inl, inr, append_assoc}
 use Rattle.std.specs.Prelude.{IfOk}
 use Rattle.std.specs.Result.{IfErr}
 use Rattle.std.proofs.lemmas.Option.{none-some}
 use mathlib.Core.Option.{some-ne-none}
-use Rattle.heap_geometry.specs.Need.{need_of}
 use Rattle.errand_steps.specs.declared.reply.Reply.{Reply}
 use Rattle.errand_steps.specs.declared.reply.Reply.TheVariants as reply
 use Rattle.errand_steps.specs.Begins.{IsBusy, IsIdle}

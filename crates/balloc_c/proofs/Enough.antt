@@ -1,9 +1,10 @@
 -- The blocks that serve so many bytes have as many.
-use Rattle.std.proofs.Common.{ℕ, zero, suc, ◌≡◌, ◌<◌, ◌≤◌, ◌-◌, ◌*◌, ◌∙◌, Bool, true, inl, inr, arith, subst, sym}
+use Rattle.std.proofs.Common.{ℕ, zero, suc, ◌≡◌, ◌<◌, ◌≤◌, ◌-◌, ◌*◌, ◌∙◌, Bool, true, false, true≢false, inl, inr, arith, refl, ap, subst, sym}
 use Rattle.std.specs.Prelude.{nat_le}
 use Rattle.std.proofs.lemmas.Bool.{cases_Bool, cases_lt, le-leb, leb-true, lt-leb}
 use Rattle.heap_geometry.specs.declared.limits.TheConstants.{CLASSES, LARGE_MOST, MAX_UNITS, SMALL_MOST}
 use Rattle.heap_geometry.specs.declared.need.Need.{Need}
+use Rattle.heap_geometry.specs.declared.need.Need.TheVariants.{Large, Small, TooLarge}
 use Rattle.heap_geometry.specs.Need.{class_words, least, need_of, run_words, usable_words}
 use Rattle.live_heap.specs.declared.answers.AllocAnswer.TheVariants as alloc_answer
 use Rattle.live_heap.specs.declared.block.Block.{Block}
@@ -26,7 +27,7 @@ least-passes (suc bound) (suc k) test below passes =
       | inr later ↦ rw later (least-passes bound k (λ j. test (suc j)) (omega (arith, below)) passes)
     ]
 
-need-enough : (words : ℕ) → words ≤ LARGE_MOST → words ≤ usable_words (need_of words)
+pub need-enough : (words : ℕ) → words ≤ LARGE_MOST → words ≤ usable_words (need_of words)
 unfolding need_of
 need-enough words within =
     elim (cases_lt SMALL_MOST words) [
@@ -41,6 +42,23 @@ need-enough words within =
           (leb-true words (run_words (least (suc MAX_UNITS) test))
           (least-passes (suc MAX_UNITS) MAX_UNITS test (omega arith) (le-leb words (run_words MAX_UNITS) within)))
     ]
+
+-- more words than a small block has are served by no class
+abbrev is_small : Need → Bool
+is_small (Small class) = true
+is_small (Large units) = false
+is_small TooLarge = false
+
+large-need : (words : ℕ) → SMALL_MOST < words → is_small (need_of words) ≡ false
+unfolding need_of
+large-need words above =
+    elim (cases_Bool (nat_le words LARGE_MOST)) [
+      | inl few ↦ rw (lt-leb words SMALL_MOST above, few) refl
+      | inr many ↦ rw (lt-leb words SMALL_MOST above, many) refl
+    ]
+
+pub no-class : (words class : ℕ) → SMALL_MOST < words → need_of words ≡ Small class → ⊥
+no-class words class above is = true≢false (sym (ap is_small is) ∙ large-need words above)
 
 -- a block that was allocated for so many words has as many
 pub block-enough :

@@ -1,16 +1,16 @@
 -- What calls make of a cache, of all blocks of its caller, and of the words that are out.
-use Rattle.std.proofs.Common.{ℕ, zero, suc, ◌≡◌, ◌≢◌, ◌+◌, ◌%◌, ◌^◌, ◌++◌, ◌∙◌, List, [], ◌∷◌, Option, Some, None, Result, Ok, Err, refl, sym, ap, subst, inl, inr, append_assoc}
+use Rattle.std.proofs.Common.{ℕ, zero, suc, ◌≡◌, ◌+◌, ◌%◌, ◌^◌, ◌++◌, ◌∙◌, List, [], ◌∷◌, Option, Some, None, Result, Ok, Err, refl, sym, ap, subst, inl, inr, append_assoc}
 use Rattle.std.specs.Prelude.{IfOk, map}
 use Rattle.std.specs.List.{range_with_len}
 use Rattle.std.specs.Result.{IfErr}
 use lib.ListN.{get_elem?}
 use Rattle.heap_geometry.specs.declared.need.Need.{Need}
-use Rattle.heap_geometry.specs.Need.{need_of, usable_words}
+use Rattle.heap_geometry.specs.Need.{need_of}
 use Rattle.errand_steps.specs.declared.reply.Reply.{Reply}
 use Rattle.errand_steps.specs.declared.reply.Reply.TheVariants as reply
 use Rattle.errand_steps.specs.Begins.{IsBusy, IsIdle}
-use Rattle.errand_steps.specs.Calls.{Call, alloc, free, put, read, take, write}
-use Rattle.sound_laws.specs.events.Made.{LeadsBy, Made, Sums, answered, found_from, wrote}
+use Rattle.errand_steps.specs.Calls.{Call, put, read, write}
+use Rattle.sound_laws.specs.events.Made.{LeadsBy, Made, answered, found_from, wrote}
 use Rattle.live_heap.specs.declared.answers.AllocAnswer.{AllocAnswer}
 use Rattle.live_heap.specs.declared.answers.AllocAnswer.TheVariants as alloc_answer
 use Rattle.live_heap.specs.declared.answers.FreeAnswer.{FreeAnswer}
@@ -35,7 +35,7 @@ use Rattle.live_heap.proofs.laws_for_builders.Hands.{hand-left}
 use Rattle.live_heap.proofs.laws_for_builders.Keeping.{stays-home}
 use Rattle.block_cache.specs.declared.cache.Cache.{Cache}
 use Rattle.block_cache.specs.declared.magazines.Magazines.{Magazines}
-use Rattle.block_cache.specs.Caches.{HasServed, IsCache, KeepsMagazines, cached_in, stacks_in}
+use Rattle.block_cache.specs.Caches.{IsCache, KeepsMagazines, cached_in, stacks_in}
 use Rattle.block_cache.specs.Magazines.{all_in, stacks_of}
 use Rattle.block_cache.proofs.MagazineLemmas.{for-or-not, room-or-not, top-splits}
 use Rattle.balloc_c.specs.declared.calls.TheConstants.{TRIES}
@@ -53,8 +53,10 @@ LentSame p q = (view q).lent ≡ (view p).lent
 pub stands-on : (h : HeapFields) (p q : Pass) (slot : Option Kept) → LentSame p q → Stands h p slot → Stands h q slot
 stands-on h p q None lent stands = tt
 stands-on h p q (Some (kept.Home block)) lent home = stays-home p q block.place lent home
-stands-on h p q (Some (kept.Out out)) lent ((n, b, at, there, serves), lies) =
-    ((n, b, ap (λ (l : List OutBlock). get_elem? l n) lent ∙ at, there, serves), lies)
+stands-on h p q (Some (kept.Out out)) lent ((n, b, at, there, serves), lies, even) =
+    ((n, b, ap (λ (l : List OutBlock). get_elem? l n) lent ∙ at, there, serves), lies, even)
+stands-on h p q (Some (kept.Laid memory)) lent (((n, b, at, there, serves), lies, even), room) =
+    (((n, b, ap (λ (l : List OutBlock). get_elem? l n) lent ∙ at, there, serves), lies, even), room)
 
 -- a call has made these blocks of those, and takes no words out
 pub record Goes (h : HeapFields) (c d : Cache) (had has : List Block) : Type 0 where

@@ -6,7 +6,7 @@ use Rattle.live_heap.specs.declared.answers.FreeAnswer.{FreeAnswer}
 use Rattle.live_heap.specs.declared.answers.FreeAnswer.TheVariants as free_answer
 use Rattle.live_heap.specs.declared.block.Block.{Block}
 use Rattle.balloc_c.specs.declared.kept.Kept.{Kept}
-use Rattle.balloc_c.specs.Kept.{block_of, is_out}
+use Rattle.balloc_c.specs.Kept.{is_out}
 use Rattle.live_heap.specs.declared.pass.Pass.{Pass}
 use Rattle.errand_steps.specs.Begins.{IsIdle}
 use Rattle.block_cache.specs.declared.cache.Cache.{Cache}
@@ -18,7 +18,7 @@ use Rattle.std.specs.Prelude.{if◌then◌else◌}
 use Rattle.std.proofs.lemmas.Bool.{cases_Bool}
 use Rattle.errand_steps.specs.Points.{is_idle}
 use Rattle.balloc_c.specs.declared.refusal.Refusal.TheVariants as refusal
-use Rattle.balloc_c.specs.Closed.{FreesAll, FreesSlot, FreesTable, StopsAt, has_out, leave_bar}
+use Rattle.balloc_c.specs.Closed.{FreesAll, FreesKept, FreesSlot, FreesTable, StopsAt, has_out, leave_bar}
 use Rattle.balloc_c.specs.Outcomes.{barred}
 use Rattle.balloc_c.proofs.BarLemmas.{barred-by, in-none, not-barred}
 use Rattle.balloc_c.specs.Through.{IsFree}
@@ -26,9 +26,9 @@ use Rattle.balloc_c.specs.Slots.{block_at, blocks_of, list_of, no_slot, set_bloc
 use Rattle.balloc_c.proofs.Slots.{about, block-set_other, block-set_same, blocks-append, by_case}
 
 frees-more :
-    (p q r : Cache) (blocks : List Kept) (block : Kept) → FreesAll p blocks q → IsFree q (block_of block) free_answer.Freed r
+    (p q r : Cache) (blocks : List Kept) (block : Kept) → FreesAll p blocks q → FreesKept q block free_answer.Freed r
     → FreesAll p (blocks ++ block ∷ []) r
-frees-more p q r [] block freed one = (r, subst (λ (s : Cache). IsFree s (block_of block) free_answer.Freed r) freed one, refl)
+frees-more p q r [] block freed one = (r, subst (λ (s : Cache). FreesKept s block free_answer.Freed r) freed one, refl)
 frees-more p q r (b ∷ bs) block freed one = (freed.0, freed.1, frees-more freed.0 q r bs block freed.2 one)
 
 frees-slot :

@@ -3,6 +3,7 @@ mod BarLemmas
 mod CodesLemmas
 mod Enough
 mod Going
+mod LaidLemmas
 mod LeaveLemmas
 mod LendingLemmas
 mod MadeCalls

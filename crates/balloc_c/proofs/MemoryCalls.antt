@@ -1,5 +1,5 @@
 -- What calls have come to by which memory goes out to C, or comes home.
-use Rattle.std.proofs.Common.{ℕ, ◌≡◌, ◌≢◌, ◌≤◌, true, false, true≢false, Bool, Option, Some, None, Result, Ok, Err, List, refl, sym, ap, ◌∙◌, subst, inl, inr}
+use Rattle.std.proofs.Common.{ℕ, ◌≡◌, ◌≤◌, true, false, true≢false, Bool, Option, Some, None, Result, Ok, Err, List, refl, sym, ap, ◌∙◌, subst, inl, inr}
 use Rattle.std.specs.Prelude.{length, nat_lt, not}
 use Rattle.std.proofs.lemmas.List.{length-map, length-replicate}
 use Rattle.plain_words.specs.Places.{laid, laids}
@@ -69,6 +69,7 @@ pub nothing-back : (h : HeapFields) (slot : Option Kept) (back : Option PlainWor
 nothing-back h None back home is = is
 nothing-back h (Some (kept.Home block)) back home is = is
 nothing-back h (Some (kept.Out lent)) back home is = absurd (true≢false home)
+nothing-back h (Some (kept.Laid memory)) back home is = is
 
 pub words-back :
     (h : HeapFields) (lent : LentBlock) (back : Option PlainWords) → IsBackFor h (Some (kept.Out lent)) back
@@ -157,7 +158,8 @@ pub alloc-nothing :
     (h : HeapFields) (c : Cache) (t : Table) (bytes : ℕ) (outcome : Result ℕ Refusal) (at : Ptr) (words : Option PlainWords) (d : Cache) (u : Table)
     → AllocatesMemory h c t bytes outcome at words d u → NothingWhere outcome at words
 alloc-nothing h c t bytes (Ok number) at words d u made = tt
-alloc-nothing h c t bytes (Err cause) at words d u made = (made.0, made.1)
+alloc-nothing h c t bytes (Err cause) at words d u (inl again) = absurd (let no : Err cause ≡ Ok again.0 = again.1 in cc)
+alloc-nothing h c t bytes (Err cause) at words d u (inr made) = (made.1.0, made.1.1)
 
 -- what a handle's pass has given out comes back for it
 pub back-of : (was : Option Hand) (hand : Hand) (number : ℕ) (back : Option PlainWords) → was ≡ Some hand → IsBackOf was number back

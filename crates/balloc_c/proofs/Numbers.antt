@@ -6,7 +6,10 @@ use Rattle.std.proofs.lemmas.Bool.Decides.{eqb_tells, leb_tells}
 use Rattle.std.proofs.lemmas.Nat.{mod-mul-add}
 use Rattle.std.proofs.lemmas.List.Sums.{sum_by-append, sum_by_push}
 use Rattle.std.proofs.Math.Nat.{add_assoc, mod-add-mod, mod-eq_of_lt, mod-lt}
+use Rattle.live_heap.specs.declared.block.Block.{Block}
 use Rattle.balloc_c.specs.declared.kept.Kept.{Kept}
+use Rattle.balloc_c.specs.declared.kept.Kept.TheVariants as kept
+use Rattle.balloc_c.specs.Kept.{seen}
 use Rattle.balloc_c.specs.declared.table.Table.{Table}
 use Rattle.balloc_c.specs.Numbers.{NamesOneMore, GaveAway, KeepsNumbers, NamesOneLess, named, number_at}
 use Rattle.balloc_c.specs.declared.table.Slot.{Slot}
@@ -22,13 +25,13 @@ both_none : (b : Bool) → (if b then none else none) ≡ none
 both_none true = refl
 both_none false = refl
 
-named-yes : (t : Table) (n : ℕ) → number_at t (n % 2 ^ 32) ≡ n → named t n ≡ block_at t.slots.items (n % 2 ^ 32)
-named-yes t n same = ap (λ (b : Bool). if b then block_at t.slots.items (n % 2 ^ 32) else None) (eq-eqb (number_at t (n % 2 ^ 32)) n same)
+named-yes : (t : Table) (n : ℕ) → number_at t (n % 2 ^ 32) ≡ n → named t n ≡ seen (block_at t.slots.items (n % 2 ^ 32))
+named-yes t n same = ap (λ (b : Bool). if b then seen (block_at t.slots.items (n % 2 ^ 32)) else None) (eq-eqb (number_at t (n % 2 ^ 32)) n same)
 
 named-no : (t : Table) (n : ℕ) → number_at t (n % 2 ^ 32) ≢ n → named t n ≡ None
-named-no t n other = ap (λ (b : Bool). if b then block_at t.slots.items (n % 2 ^ 32) else None) (ne_eqb (number_at t (n % 2 ^ 32)) n other)
+named-no t n other = ap (λ (b : Bool). if b then seen (block_at t.slots.items (n % 2 ^ 32)) else None) (ne_eqb (number_at t (n % 2 ^ 32)) n other)
 
-named-empty : (t : Table) (n : ℕ) → block_at t.slots.items (n % 2 ^ 32) ≡ None → named t n ≡ None
+named-empty : (t : Table) (n : ℕ) → seen (block_at t.slots.items (n % 2 ^ 32)) ≡ None → named t n ≡ None
 named-empty t n empty =
     ap (λ (s : Option Kept). if number_at t (n % 2 ^ 32) == n then s else None) empty ∙ both_none (number_at t (n % 2 ^ 32) == n)
 
@@ -37,8 +40,8 @@ named-same :
     (t u : Table) (n : ℕ) → block_at u.slots.items (n % 2 ^ 32) ≡ block_at t.slots.items (n % 2 ^ 32)
     → age_at u.slots.items (n % 2 ^ 32) ≡ age_at t.slots.items (n % 2 ^ 32) → named u n ≡ named t n
 named-same t u n block age =
-    ap (λ (a : ℕ). if a * 2 ^ 32 + n % 2 ^ 32 % 2 ^ 32 == n then block_at u.slots.items (n % 2 ^ 32) else None) age
-    ∙ ap (λ (s : Option Kept). if number_at t (n % 2 ^ 32) == n then s else None) block
+    ap (λ (a : ℕ). if a * 2 ^ 32 + n % 2 ^ 32 % 2 ^ 32 == n then seen (block_at u.slots.items (n % 2 ^ 32)) else None) age
+    ∙ ap (λ (s : Option Kept). if number_at t (n % 2 ^ 32) == n then seen s else None) block
 
 -- a number that names a block is that of its slot
 pub names-itself : (t : Table) (n : ℕ) → named t n ≢ None → number_at t (n % 2 ^ 32) ≡ n
@@ -62,21 +65,21 @@ slot-of : (t : Table) (i : ℕ) → i < 2 ^ 32 → number_at t i % 2 ^ 32 ≡ i
 slot-of t i small =
     mod-mul-add (age_at t.slots.items i) (2 ^ 32) (i % 2 ^ 32) (mod-lt i (omega arith)) ∙ mod-eq_of_lt small
 
--- a table where a vacant slot has a block now names one more
+-- a table where a slot that nothing was seen in has a block now names one more
 pub gains :
-    (t u : Table) (i : ℕ) (block : Kept) → i < 2 ^ 32 → block_at t.slots.items i ≡ None → block_at u.slots.items i ≡ Some block
+    (t u : Table) (i : ℕ) (block : Kept) → i < 2 ^ 32 → seen (block_at t.slots.items i) ≡ None → seen (block_at u.slots.items i) ≡ Some block
     → ((j : ℕ) → j ≢ i → block_at u.slots.items j ≡ block_at t.slots.items j)
     → ((j : ℕ) → age_at u.slots.items j ≡ age_at t.slots.items j) → NamesOneMore t (number_at u i) block u
 gains t u i block small vacant full others ages =
     let number = number_at u i in
     let slot : number % 2 ^ 32 ≡ i = slot-of u i small in
     record {
-      new = named-empty t number (ap (block_at t.slots.items) slot ∙ vacant);
-      here = named-yes u number (ap (number_at u) slot) ∙ ap (block_at u.slots.items) slot ∙ full;
+      new = named-empty t number (ap (λ (j : ℕ). seen (block_at t.slots.items j)) slot ∙ vacant);
+      here = named-yes u number (ap (number_at u) slot) ∙ ap (λ (j : ℕ). seen (block_at u.slots.items j)) slot ∙ full;
       others = λ n other. by_case
           (λ same.
           named-no u n (λ it. other (sym it ∙ ap (number_at u) same.1))
-          ∙ sym (named-empty t n (ap (block_at t.slots.items) same.1 ∙ vacant)))
+          ∙ sym (named-empty t n (ap (λ (j : ℕ). seen (block_at t.slots.items j)) same.1 ∙ vacant)))
           (λ apart. named-same t u n (others (n % 2 ^ 32) apart.1) (ages (n % 2 ^ 32)))
           (eqb_tells (n % 2 ^ 32) i);
       gave = gave-none t u ages;
@@ -87,7 +90,7 @@ twice a = mod-eq_of_lt (mod-lt a (omega arith))
 
 -- a table where a slot has given its block away names one less
 pub loses :
-    (t u : Table) (n : ℕ) → named t n ≢ None → block_at u.slots.items (n % 2 ^ 32) ≡ None
+    (t u : Table) (n : ℕ) → named t n ≢ None → seen (block_at u.slots.items (n % 2 ^ 32)) ≡ None
     → ((j : ℕ) → j ≢ n % 2 ^ 32 → block_at u.slots.items j ≡ block_at t.slots.items j)
     → age_at u.slots.items (n % 2 ^ 32) ≡ (age_at t.slots.items (n % 2 ^ 32) + 1) % 2 ^ 32
     → ((j : ℕ) → j ≢ n % 2 ^ 32 → age_at u.slots.items j ≡ age_at t.slots.items j) → NamesOneLess t n u
@@ -97,7 +100,7 @@ loses t u n names gone others older ages =
       gone = named-empty u n gone;
       others = λ m other. by_case
           (λ same.
-          named-empty u m (ap (block_at u.slots.items) same.1 ∙ gone)
+          named-empty u m (ap (λ (j : ℕ). seen (block_at u.slots.items j)) same.1 ∙ gone)
           ∙ sym (named-no t m (λ it. other (sym it ∙ ap (number_at t) same.1 ∙ names-itself t n names))))
           (λ apart. named-same t u m (others (m % 2 ^ 32) apart.1) (ages (m % 2 ^ 32) apart.1))
           (eqb_tells (m % 2 ^ 32) i);
@@ -150,14 +153,14 @@ keeps-itself t = keeps t t (λ j. refl) (λ j. refl)
 
 -- a table where a block was put into a vacant slot names one more
 pub gains-set :
-    (t u : Table) (i : ℕ) (block : Kept) → i < 2 ^ 32 → IsVacant t.slots.items i → u.slots.items ≡ set_block t.slots.items i (Some block)
-    → NamesOneMore t (number_at u i) block u
+    (t u : Table) (i : ℕ) (block : Block) → i < 2 ^ 32 → IsVacant t.slots.items i → u.slots.items ≡ set_block t.slots.items i (Some (kept.Home block))
+    → NamesOneMore t (number_at u i) (kept.Home block) u
 gains-set t u i block small vacant set =
-    let slot : Slot = record (slice_index_or t.slots.items i no_slot) { block = Some block } in
-    gains t u i block small vacant.1
-    (ap (λ (l : List Slot). block_at l i) set ∙ block-set_same t.slots.items i slot vacant.0)
+    let slot : Slot = record (slice_index_or t.slots.items i no_slot) { block = Some (kept.Home block) } in
+    gains t u i (kept.Home block) small (ap seen vacant.1)
+    (ap seen (ap (λ (l : List Slot). block_at l i) set ∙ block-set_same t.slots.items i slot vacant.0))
     (λ j other. ap (λ (l : List Slot). block_at l j) set ∙ block-set_other t.slots.items i j slot other)
-    (λ j. ap (λ (l : List Slot). age_at l j) set ∙ age-set t.slots.items i (Some block) j vacant.0)
+    (λ j. ap (λ (l : List Slot). age_at l j) set ∙ age-set t.slots.items i (Some (kept.Home block)) j vacant.0)
 
 -- a table where a block was taken out of its slot for good names one less
 pub loses-set :
@@ -169,7 +172,7 @@ loses-set t u l n names within set aged =
     let ages : (j : ℕ) → age_at l j ≡ age_at t.slots.items j =
     λ j. ap (λ (k : List Slot). age_at k j) set ∙ age-set t.slots.items i None j within in
     loses t u n names
-    (aged.same i ∙ ap (λ (k : List Slot). block_at k i) set ∙ block-set_same t.slots.items i slot within)
+    (ap seen (aged.same i ∙ ap (λ (k : List Slot). block_at k i) set ∙ block-set_same t.slots.items i slot within))
     (λ j other. aged.same j ∙ ap (λ (k : List Slot). block_at k j) set ∙ block-set_other t.slots.items i j slot other)
     (aged.here ∙ ap (λ (a : ℕ). (a + 1) % 2 ^ 32) (ages i))
     (λ j other. aged.others j other ∙ ages j)
@@ -210,11 +213,25 @@ some-not-none block same = true≢false (ap is_there same)
     is_there None = false
     is_there (Some b) = true
 
+-- what is seen in a slot is there
+pub seen-some : (slot : Option Kept) (block : Kept) → seen slot ≡ Some block → slot ≡ Some block
+seen-some None block is = is
+seen-some (Some (kept.Home b)) block is = is
+seen-some (Some (kept.Out l)) block is = is
+seen-some (Some (kept.Laid m)) block is = absurd (some-not-none block (sym is))
+
 -- a number that names a block names that in its slot
 pub slot-named :
     (t : Table) (n i : ℕ) (block : Kept) → i ≡ n % 2 ^ 32 → named t n ≡ Some block → named t n ≡ block_at t.slots.items i
 slot-named t n i block at is =
-    named-yes t n (names-itself t n (λ none. some-not-none block (sym is ∙ none))) ∙ sym (ap (block_at t.slots.items) at)
+    let here = named-yes t n (names-itself t n (λ none. some-not-none block (sym is ∙ none))) in
+    is ∙ sym (seen-some (block_at t.slots.items (n % 2 ^ 32)) block (sym here ∙ is)) ∙ sym (ap (block_at t.slots.items) at)
+
+-- what is found under a number is not memory that the pass keeps
+pub found-seen :
+    (t : Table) (n i : ℕ) → i ≡ n % 2 ^ 32 → named t n ≢ None → seen (block_at t.slots.items i) ≢ None
+found-seen t n i at names none =
+    names (named-yes t n (names-itself t n names) ∙ sym (ap (λ (j : ℕ). seen (block_at t.slots.items j)) at) ∙ none)
 
 pub behind-none : (slots : List Slot) (i : ℕ) → length slots ≤ i → block_at slots i ≡ None
 behind-none [] i past = refl
@@ -229,7 +246,7 @@ begins-at-zero t u number block bare few gained small =
     let i = number % 2 ^ 32 in
     let names : named u number ≢ None = λ none. some-not-none block (sym gained.here ∙ none) in
     let is : number_at u i ≡ number = names-itself u number names in
-    let here : block_at u.slots.items i ≡ Some block = sym (named-yes u number is) ∙ gained.here in
+    let here : block_at u.slots.items i ≡ Some block = seen-some (block_at u.slots.items i) block (sym (named-yes u number is) ∙ gained.here) in
     let there : i < length u.slots.items =
     by_case (λ past. absurd (some-not-none block (sym here ∙ behind-none u.slots.items i past.1))) (λ low. omega (arith, low.1)) (leb_tells (length u.slots.items) i) in
     let none : length t.slots.items ≡ 0 = ap length bare in
@@ -248,8 +265,8 @@ begins-at-zero t u number block bare few gained small =
 -- a number names another block, or the same in another way, where its slot was set anew
 renames-set :
     (t u : Table) (middle : List Slot) (number : ℕ) (was now : Kept) → number % 2 ^ 32 < length t.slots.items → named t number ≡ Some was
-    → middle ≡ set_block t.slots.items (number % 2 ^ 32) None → u.slots.items ≡ set_block middle (number % 2 ^ 32) (Some now) → Renames t number now u
-renames-set t u middle number was now within names out back =
+    → middle ≡ set_block t.slots.items (number % 2 ^ 32) None → u.slots.items ≡ set_block middle (number % 2 ^ 32) (Some now) → seen (Some now) ≡ Some now → Renames t number now u
+renames-set t u middle number was now within names out back shows =
     let i = number % 2 ^ 32 in
     let slots = t.slots.items in
     let bare : Slot = record (slice_index_or slots i no_slot) { block = None } in
@@ -265,7 +282,7 @@ renames-set t u middle number was now within names out back =
     let there : number_at t i ≡ number = names-itself t number (λ nothing. some-not-none was (sym names ∙ nothing)) in
     let now_there : number_at u i ≡ number = ap (λ (a : ℕ). a * 2 ^ 32 + i % 2 ^ 32) (ages i) ∙ there in
     record {
-      here = named-yes u number now_there ∙ ap (λ (l : List Slot). block_at l i) back ∙ block-set_same middle i full still;
+      here = named-yes u number now_there ∙ ap (λ (l : List Slot). seen (block_at l i)) back ∙ ap seen (block-set_same middle i full still) ∙ shows;
       others = λ m other. by_case
           (λ same.
           named-no u m (λ it. other (sym it ∙ ap (number_at u) same.1 ∙ now_there))
@@ -277,7 +294,8 @@ renames-set t u middle number was now within names out back =
 
 pub renames-at :
     (t u : Table) (middle : List Slot) (i number : ℕ) (was now : Kept) → i ≡ number % 2 ^ 32 → i < length t.slots.items → named t number ≡ Some was
-    → middle ≡ set_block t.slots.items i None → u.slots.items ≡ set_block middle i (Some now) → Renames t number now u
-renames-at t u middle i number was now is within names out back =
+    → middle ≡ set_block t.slots.items i None → u.slots.items ≡ set_block middle i (Some now) → seen (Some now) ≡ Some now
+    → Renames t number now u
+renames-at t u middle i number was now is within names out back shows =
     renames-set t u middle number was now (subst (λ (k : ℕ). k < length t.slots.items) is within) names
-    (subst (λ (k : ℕ). middle ≡ set_block t.slots.items k None) is out) (subst (λ (k : ℕ). u.slots.items ≡ set_block middle k (Some now)) is back)
+    (subst (λ (k : ℕ). middle ≡ set_block t.slots.items k None) is out) (subst (λ (k : ℕ). u.slots.items ≡ set_block middle k (Some now)) is back) shows

@@ -19,7 +19,7 @@ unfolding is_some
 none-is block same = let apart : 0 ≡ 1 = ap is_some same in omega (arith, apart)
 
 -- a slot with a block stands not ready
-apart-from :
+pub apart-from :
     (slots : List Slot) (spare i : ℕ) (block : Kept) (spares : List ℕ) → block_at slots i ≡ Some block → AreSpare slots spare spares
     → IsNoneOf i spares
 apart-from slots spare i block [] is are = tt
@@ -27,7 +27,7 @@ apart-from slots spare i block (j ∷ rest) is are =
     ((λ same. none-is block (sym are.1.1 ∙ ap (block_at slots) same ∙ is)), apart-from slots (next_at slots j) i block rest is are.3)
 
 -- slots stand ready where just one that doesn't has changed
-keep-spare :
+pub keep-spare :
     (slots after : List Slot) (spare i : ℕ) (spares : List ℕ) → length after ≡ length slots
     → ((j : ℕ) → j ≢ i → (block_at after j ≡ block_at slots j) × (next_at after j ≡ next_at slots j)) → IsNoneOf i spares
     → AreSpare slots spare spares → AreSpare after spare spares
@@ -40,7 +40,7 @@ keep-spare slots after spare i (j ∷ rest) count same apart are =
       subst (λ (n : ℕ). AreSpare after n rest) (sym at.1) (keep-spare slots after (next_at slots j) i rest count same apart.1 are.3),
     )
 
-next-set_other : (slots : List Slot) (i j : ℕ) (slot : Slot) → j ≢ i → next_at (slice_set slots i slot) j ≡ next_at slots j
+pub next-set_other : (slots : List Slot) (i j : ℕ) (slot : Slot) → j ≢ i → next_at (slice_set slots i slot) j ≡ next_at slots j
 next-set_other slots i j slot other = ap (λ (s : Slot). s.next) (get_or-set_other slots i j slot no_slot other)
 
 -- how many blocks there are, by one slot and those about it

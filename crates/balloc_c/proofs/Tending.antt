@@ -1,15 +1,15 @@
 -- A cache tends the blocks of a table, through calls and changes of slots.
-use Rattle.std.proofs.Common.{ℕ, zero, suc, ◌≡◌, ◌≢◌, ◌<◌, ◌+◌, ◌++◌, ◌∙◌, Bool, true, false, List, [], ◌∷◌, Option, Some, None, length, take, drop, slice_index_or, refl, sym, ap, subst, inl, inr, append_assoc, true≢false, arith}
+use Rattle.std.proofs.Common.{ℕ, zero, suc, ◌≡◌, ◌≢◌, ◌<◌, ◌+◌, ◌++◌, ◌∙◌, List, [], ◌∷◌, Option, Some, None, length, take, drop, slice_index_or, refl, sym, ap, subst, append_assoc, arith}
 use Rattle.std.specs.Prelude.{All, map}
 use Rattle.std.proofs.lemmas.Bool.Decides.{eqb_tells}
 use Rattle.std.proofs.lemmas.List.{map-append}
-use Rattle.std.proofs.lemmas.List.Elements.{All-append, All-cons, All-head, All-nil, All-tail}
+use Rattle.std.proofs.lemmas.List.Elements.{All-cons, All-head, All-nil, All-tail}
 use Rattle.std.proofs.lemmas.Option.{none-some}
 use Rattle.errand_steps.specs.Begins.{IsIdle}
 use Rattle.live_heap.specs.declared.block.Block.{Block}
 use Rattle.live_heap.specs.Heaps.{HeapFields}
 use Rattle.live_heap.specs.declared.pass.Pass.{Pass}
-use Rattle.live_heap.specs.Holdings.{Holds, HoldsExactly}
+use Rattle.live_heap.specs.Holdings.{HoldsExactly}
 use Rattle.live_heap.specs.Passes.{IsHome}
 use Rattle.block_cache.specs.declared.cache.Cache.{Cache}
 use Rattle.block_cache.specs.Caches.{HoldsBlock, IsCache, cached_in}
@@ -19,11 +19,11 @@ use Rattle.block_cache.proofs.CacheLemmas.{all-back}
 use Rattle.balloc_c.specs.declared.kept.Kept.{Kept}
 use Rattle.balloc_c.specs.declared.kept.Kept.TheVariants as kept
 use Rattle.balloc_c.specs.declared.table.Slot.{Slot}
-use Rattle.balloc_c.specs.Kept.{block_of, is_out}
+use Rattle.balloc_c.specs.Kept.{block_of}
 use Rattle.balloc_c.specs.Slots.{IsVacant, block_at, blocks_of, lots_of, no_slot, set_block, with_block}
 use Rattle.balloc_c.specs.Tended.{HasAll, Stands, Tends, at_home}
 use Rattle.balloc_c.proofs.AllBlocks.{all-home, from-front, to-front}
-use Rattle.balloc_c.proofs.Going.{Goes, LentSame, stands-on}
+use Rattle.balloc_c.proofs.Going.{Goes, stands-on}
 use Rattle.balloc_c.proofs.Slots.{about, about-set, block-set_other, block-set_same, by_case, vacant-set, whole-at}
 
 -- the blocks in slots, by one slot and those about it

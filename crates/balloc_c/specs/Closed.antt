@@ -1,13 +1,22 @@
 -- How a pass closes for C.
-use Rattle.std.specs.Prelude.{ℕ, ◌≡◌, if◌then◌else◌, Bool, true, false, ℤ, pos, negsuc, Option, Some, None, IsSomeAnd, Result, Ok, Err, List, [], ◌∷◌, ◌++◌, ◌⊎◌}
+use Rattle.std.specs.Prelude.{ℕ, ◌≡◌, if◌then◌else◌, Bool, true, false, ℤ, pos, negsuc, Option, Some, None, IsSomeAnd, Result, Ok, Err, List, [], ◌∷◌, ◌++◌, ◌⊎◌, replicate}
 use Rattle.std.specs.Arc.{arc_value}
 use Rattle.errand_steps.specs.Begins.{IsIdle}
 use Rattle.live_heap.specs.declared.answers.FreeAnswer.{FreeAnswer}
 use Rattle.live_heap.specs.declared.answers.FreeAnswer.TheVariants as free_answer
 use Rattle.balloc_c.specs.declared.kept.Kept.{Kept}
+use Rattle.balloc_c.specs.declared.kept.Kept.TheVariants as kept
 use Rattle.balloc_c.specs.declared.table.Slot.{Slot}
-use Rattle.balloc_c.specs.Kept.{block_of, is_out}
+use Rattle.balloc_c.specs.Kept.{is_out}
+use Rattle.heap_geometry.specs.Need.{usable_words}
+use Rattle.sound_laws.specs.events.Made.{LeadsBy}
 use Rattle.live_heap.specs.declared.pass.Pass.{Pass}
+use Rattle.live_heap.specs.declared.plain.Memory.{Memory}
+use Rattle.live_heap.specs.Heaps.{HeapFields}
+use Rattle.live_heap.specs.Memory.{before_taking, writes_from}
+use Rattle.live_heap.specs.Passes.{IsOf}
+use Rattle.live_heap.specs.Words.{CallsOnWord}
+use Rattle.block_cache.specs.Caches.{KeepsMagazines}
 use Rattle.live_heap.specs.Endings.{ClosedFields}
 use Rattle.shared_heap.specs.declared.shared.Receipt.{Receipt}
 use Rattle.shared_heap.specs.Gathered.{IsClosedWhole}
@@ -25,15 +34,30 @@ use Rattle.balloc_c.specs.Slots.{blocks_of}
 use Rattle.balloc_c.specs.Hands.{heap_of}
 use Rattle.balloc_c.specs.Through.{IsFlush, IsFree}
 
+-- words that the pass kept have come home: each was written with 0
+pub record HasHomed (c : Cache) (memory : Memory) (d : Cache) : Type 0 where
+  pub heap : HeapFields
+  pub of : IsOf heap c.pass
+  pub wrote :
+      LeadsBy (CallsOnWord heap) (before_taking c.pass memory.block.place)
+      (writes_from memory.block.place memory.block.need 0 (replicate (usable_words memory.block.need) 0)) d.pass
+  pub keeps : KeepsMagazines c d
+
+-- a block was freed, or its free is under way; words that the pass kept came home before
+abbrev pub FreesKept : Cache → Kept → FreeAnswer → Cache → Type 0
+FreesKept c (kept.Home block) answer d = IsFree c block answer d
+FreesKept c (kept.Out lent) answer d = ⊥
+FreesKept c (kept.Laid memory) answer d = (e : Cache) × HasHomed c memory e × IsFree e memory.block answer d
+
 -- the block of a slot was freed, or its free is under way; where there is none nothing has happened
 abbrev pub FreesSlot : Cache → Option Kept → FreeAnswer → Cache → Type 0
 FreesSlot c None answer d = (answer ≡ free_answer.Freed) × (d ≡ c)
-FreesSlot c (Some block) answer d = IsFree c (block_of block) answer d
+FreesSlot c (Some block) answer d = FreesKept c block answer d
 
 -- these blocks were freed, one after the other
 abbrev pub FreesAll : Cache → List Kept → Cache → Type 0
 FreesAll c [] d = d ≡ c
-FreesAll c (block ∷ blocks) d = (next : Cache) × IsFree c (block_of block) free_answer.Freed next × FreesAll next blocks d
+FreesAll c (block ∷ blocks) d = (next : Cache) × FreesKept c block free_answer.Freed next × FreesAll next blocks d
 
 -- some of the blocks were freed, the free of the next one is interrupted, and the others are left
 pub record StopsAt (c : Cache) (had left : List Kept) (d : Cache) : Type 0 where
@@ -42,7 +66,7 @@ pub record StopsAt (c : Cache) (had left : List Kept) (d : Cache) : Type 0 where
   pub order : had ≡ freed ++ block ∷ left
   pub next : Cache
   pub before : FreesAll c freed next
-  pub stopped : IsFree next (block_of block) free_answer.Busy d
+  pub stopped : FreesKept next block free_answer.Busy d
 
 -- all blocks of the table were freed, in the order of their slots; or one of these frees is interrupted
 abbrev pub FreesTable : Cache → Table → FreeAnswer → Cache → Table → Type 0
@@ -59,7 +83,7 @@ Empties c t (Ok done) d u = FreesThenFlushes c t free_answer.Freed d u
 Empties c t (Err refusal.Interrupted) d u = FreesTable c t free_answer.Busy d u ⊎ FreesThenFlushes c t free_answer.Busy d u
 Empties c t (Err cause) d u = ⊥
 
--- the words of one of the blocks are out
+-- the words of one of the blocks are out with C
 abbrev pub has_out : List Slot → Bool
 has_out [] = false
 has_out (slot ∷ slots) = if is_out slot.block then true else has_out slots

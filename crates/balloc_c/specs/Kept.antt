@@ -1,6 +1,9 @@
 -- What a slot of the table has.
 use Rattle.std.specs.Prelude.{Bool, true, false, Option, Some, None}
+use Rattle.plain_words.specs.declared.plain.PlainWords.{PlainWords}
 use Rattle.live_heap.specs.declared.block.Block.{Block}
+use Rattle.live_heap.specs.declared.plain.Memory.{Memory}
+use Rattle.balloc_c.specs.declared.lent.LentBlock.{LentBlock}
 use Rattle.balloc_c.specs.declared.kept.Kept.{Kept}
 use Rattle.balloc_c.specs.declared.kept.Kept.TheVariants as kept
 
@@ -8,9 +11,29 @@ use Rattle.balloc_c.specs.declared.kept.Kept.TheVariants as kept
 abbrev pub block_of : Kept → Block
 block_of (kept.Home block) = block
 block_of (kept.Out lent) = record { place = lent.place; need = lent.need; is_need = lent.is_need }
+block_of (kept.Laid memory) = memory.block
 
--- the words of a slot's block are out
+-- the words of a slot's block are out with C
 abbrev pub is_out : Option Kept → Bool
 is_out None = false
 is_out (Some (kept.Home block)) = false
 is_out (Some (kept.Out lent)) = true
+is_out (Some (kept.Laid memory)) = false
+
+-- they are out, and the pass keeps them
+abbrev pub is_laid : Option Kept → Bool
+is_laid None = false
+is_laid (Some (kept.Home block)) = false
+is_laid (Some (kept.Out lent)) = false
+is_laid (Some (kept.Laid memory)) = true
+
+-- what a number can name: all but memory that the pass keeps
+abbrev pub seen : Option Kept → Option Kept
+seen None = None
+seen (Some (kept.Home block)) = Some (kept.Home block)
+seen (Some (kept.Out lent)) = Some (kept.Out lent)
+seen (Some (kept.Laid memory)) = None
+
+-- the memory of a block whose words are these
+abbrev pub memory_of : LentBlock → PlainWords → Memory
+memory_of lent words = record { block = block_of (kept.Out lent); words = words }

@@ -1,12 +1,13 @@
 -- How the memory of a block goes out to C, and comes home.
-use Rattle.std.specs.Prelude.{ℕ, ◌≡◌, ◌≢◌, ◌<◌, ◌≤◌, ◌+◌, ◌*◌, ◌/◌, ◌%◌, ◌⊎◌, true, Option, Some, None, Result, Ok, Err, List, [], length, min, replicate}
+use Rattle.std.specs.Prelude.{ℕ, ◌≡◌, ◌≢◌, ◌≤◌, ◌+◌, ◌*◌, ◌/◌, ◌%◌, ◌^◌, ◌⊎◌, true, Option, Some, None, Result, Ok, Err, List, [], length, min, replicate}
 use Rattle.std.specs.Ptr.{ptr_add}
 use Rattle.std.specs.Borrow.{u64}
 use denote.RawPtr.{Ptr, null_ptr}
 use Rattle.heap_geometry.specs.declared.limits.TheConstants.{LARGE_MOST}
-use Rattle.heap_geometry.specs.Need.{usable_words}
+use Rattle.heap_geometry.specs.Need.{need_of, usable_words}
+use Rattle.errand_steps.specs.Begins.{IsIdle}
 use Rattle.sound_laws.specs.events.Made.{LeadsBy}
-use Rattle.plain_words.specs.Places.{AllHere, laids, numbers}
+use Rattle.plain_words.specs.Places.{laids, numbers}
 use Rattle.plain_words.specs.declared.plain.PlainWords.{PlainWords}
 use Rattle.live_heap.specs.declared.plain.Memory.{Memory}
 use Rattle.live_heap.specs.Heaps.{HeapFields}
@@ -20,8 +21,11 @@ use Rattle.balloc_c.specs.declared.lent.LentBlock.{LentBlock}
 use Rattle.balloc_c.specs.declared.refusal.Refusal.{Refusal}
 use Rattle.balloc_c.specs.declared.refusal.Refusal.TheVariants as refusal
 use Rattle.balloc_c.specs.declared.table.Table.{Table}
-use Rattle.balloc_c.specs.Kept.{block_of}
-use Rattle.balloc_c.specs.Numbers.{GaveAway, named}
+use Rattle.balloc_c.specs.Kept.{block_of, memory_of}
+use Rattle.balloc_c.specs.Laid.{HasRoomFor, IsReady, first_of, room_of}
+use Rattle.balloc_c.specs.Numbers.{GaveAway, NamesOneLess, NamesOneMore, named}
+use Rattle.balloc_c.specs.Slots.{next_at}
+use Rattle.balloc_c.specs.Tended.{IsRoomAt}
 use Rattle.balloc_c.specs.Outcomes.{Answers, HasAllocated, HasFreed, barred, is_busy, names_none}
 
 -- how many words have so many bytes; more than any block has stand for all that are more
@@ -78,19 +82,39 @@ HasToldMemory h c t number result at words d u =
     Answers (home_bar c t number) (λ outcome e v. TellsMemory h c t number outcome at words e v) c t result d u × NothingWhere result at words
 
 -- an allocation of so many bytes, and the memory of the block that it gives, which has as many and is C's; where it gives none there is none
-abbrev pub AllocatesMemory : HeapFields → Cache → Table → ℕ → Result ℕ Refusal → Ptr → Option PlainWords → Cache → Table → Type 0
-AllocatesMemory h c t bytes (Ok number) at words d u =
+abbrev pub AllocatesNew : HeapFields → Cache → Table → ℕ → Result ℕ Refusal → Ptr → Option PlainWords → Cache → Table → Type 0
+AllocatesNew h c t bytes (Ok number) at words d u =
     (e : Cache) × (v : Table) × HasAllocated c t (words_for bytes) (Ok number) e v
     × (memory : Memory) × (words ≡ Some memory.words) × (at ≡ memory_at h memory.block.place)
     × (bytes ≤ 8 * usable_words memory.block.need) × HasGoneOut h e v number memory d u
-AllocatesMemory h c t bytes (Err cause) at words d u = (at ≡ null_ptr) × (words ≡ None) × HasAllocated c t (words_for bytes) (Err cause) d u
+AllocatesNew h c t bytes (Err cause) at words d u = (at ≡ null_ptr) × (words ≡ None) × HasAllocated c t (words_for bytes) (Err cause) d u
 
--- words are those of the block, all of them, as plain memory; some may never have been written
-pub record IsRoomFor (h : HeapFields) (lent : LentBlock) (words : PlainWords) : Type 0 where
-  pub at : words.at ≡ h.region.at
-  pub first : words.first ≡ lent.place + 1
-  pub long : length words.places ≡ usable_words lent.need
-  pub here : AllHere words.places
+-- memory that the pass keeps goes out again, which has as many bytes: all usable words of its block, aligned to 16 bytes. A number names the block that named none, the pass and its magazines stand as they stood, there is room for one more, and the slot that its slot named is the next
+pub record GivesAgain (h : HeapFields) (c : Cache) (t : Table) (bytes number : ℕ) (at : Ptr) (words : Option PlainWords) (d : Cache) (u : Table) : Type 0 where
+  pub idle : IsIdle c.pass.errand
+  pub memory : Memory
+  pub ready : IsReady t (need_of (words_for bytes)) memory
+  pub is : words ≡ Some memory.words
+  pub begins : at ≡ memory_at h memory.block.place
+  pub enough : bytes ≤ 8 * usable_words memory.block.need
+  pub room : IsRoomAt h memory.block.place memory.block.need memory.words
+  pub aligned : memory.words.first % 2 ≡ 1
+  pub lent : LentBlock
+  pub token : block_of (kept.Out lent) ≡ memory.block
+  pub more : NamesOneMore t number (kept.Out lent) u
+  pub left : room_of u ready.class ≡ (room_of t ready.class + 1) % 2 ^ 8
+  pub next : first_of u ready.class ≡ next_at t.slots.items (first_of t ready.class)
+  pub still : d ≡ c
+
+-- an allocation of so many bytes: of memory that the pass keeps, and where none of it serves so many, of a block
+abbrev pub AllocatesMemory : HeapFields → Cache → Table → ℕ → Result ℕ Refusal → Ptr → Option PlainWords → Cache → Table → Type 0
+AllocatesMemory h c t bytes outcome at words d u =
+    ((number : ℕ) × (outcome ≡ Ok number) × GivesAgain h c t bytes number at words d u)
+    ⊎ ((IsIdle c.pass.errand → (memory : Memory) → ¬ IsReady t (need_of (words_for bytes)) memory) × AllocatesNew h c t bytes outcome at words d u)
+
+-- words are those of the block
+abbrev pub IsRoomFor : HeapFields → LentBlock → PlainWords → Type 0
+IsRoomFor h lent words = IsRoomAt h lent.place lent.need words
 
 -- whoever names a block whose words are out gives them back; for another number there is nothing to give
 abbrev pub IsBackFor : HeapFields → Option Kept → Option PlainWords → Type 0
@@ -124,12 +148,35 @@ GivesBack h c t number holding Call (Some words) result left d u =
     ((is_busy c.pass ≡ true) × (result ≡ Err refusal.InCall) × (left ≡ Some words) × (d ≡ c) × (u ≡ t))
     ⊎ ((left ≡ None) × (e : Cache) × (v : Table) × HasComeHome h c t number (holding words) e v × Call e v result d u)
 
--- a free, for which words that were out come home as zeros
+-- words come home as zeros
 abbrev pub zeros : PlainWords → List ℕ
 zeros words = replicate (length words.places) 0
 
+-- a free, for which words that were out come home as zeros
+abbrev pub FreesHome : HeapFields → Cache → Table → ℕ → Option PlainWords → Result (Unit {0}) Refusal → Option PlainWords → Cache → Table → Type 0
+FreesHome h c t number = GivesBack h c t number zeros (λ e v result d u. HasFreed e v number result d u)
+
+-- the pass keeps the words, and gives them again before those that were next; the number names nothing from then on, and the pass and its magazines stand as they stood
+pub record KeepsBack (c : Cache) (t : Table) (number : ℕ) (back : Option PlainWords) (result : Result (Unit {0}) Refusal) (left : Option PlainWords) (d : Cache) (u : Table) : Type 0 where
+  pub idle : IsIdle c.pass.errand
+  pub room : HasRoomFor t (named t number)
+  pub lent : LentBlock
+  pub was : named t number ≡ Some (kept.Out lent)
+  pub words : PlainWords
+  pub is : back ≡ Some words
+  pub made : result ≡ Ok tt
+  pub nothing : left ≡ None
+  pub less : NamesOneLess t number u
+  pub ready : IsReady u lent.need (memory_of lent words)
+  pub fewer : room_of u room.class + 1 ≡ room_of t room.class
+  pub chain : next_at u.slots.items (number % 2 ^ 32) ≡ first_of t room.class
+  pub still : d ≡ c
+
+-- a free, for which words that were out stay out with the pass, where that has room for them, and else come home as zeros
 abbrev pub FreesBack : HeapFields → Cache → Table → ℕ → Option PlainWords → Result (Unit {0}) Refusal → Option PlainWords → Cache → Table → Type 0
-FreesBack h c t number = GivesBack h c t number zeros (λ e v result d u. HasFreed e v number result d u)
+FreesBack h c t number back result left d u =
+    KeepsBack c t number back result left d u
+    ⊎ ((IsIdle c.pass.errand → ¬ HasRoomFor t (named t number)) × FreesHome h c t number back result left d u)
 
 -- a call by which words come home with what is in them. Where they are home nothing happens
 abbrev pub StaysHome : Cache → Table → ℕ → Result (Unit {0}) Refusal → Cache → Table → Type 0

@@ -5,6 +5,7 @@ pub mod Handing
 pub mod Handled
 pub mod Hands
 pub mod Kept
+pub mod Laid
 pub mod Lending
 pub mod Lent
 pub mod Numbers

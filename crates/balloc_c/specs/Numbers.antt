@@ -2,6 +2,7 @@
 use Rattle.std.specs.Prelude.{ℕ, ◌≡◌, ◌≢◌, ◌+◌, ◌*◌, ◌%◌, ◌^◌, ◌==◌, if◌then◌else◌, Option, Some, None, List, [], ◌∷◌, count_by}
 use Rattle.balloc_c.specs.declared.kept.Kept.{Kept}
 use Rattle.balloc_c.specs.declared.table.Table.{Table}
+use Rattle.balloc_c.specs.Kept.{seen}
 use Rattle.balloc_c.specs.Slots.{IsVacant, age_at, block_at}
 
 -- the number of the block in a slot
@@ -11,7 +12,7 @@ number_at table index = age_at table.slots.items index * 2 ^ 32 + index % 2 ^ 32
 -- the block that has this number, if any
 abbrev pub named : Table → ℕ → Option Kept
 named table number =
-    if number_at table (number % 2 ^ 32) == number then block_at table.slots.items (number % 2 ^ 32) else None
+    if number_at table (number % 2 ^ 32) == number then seen (block_at table.slots.items (number % 2 ^ 32)) else None
 
 -- from the one table to the other just these slots gave blocks away, each as often as it stands here. An age is a number of 32 bits
 abbrev pub GaveAway : Table → List ℕ → Table → Type 0

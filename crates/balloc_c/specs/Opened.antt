@@ -2,6 +2,7 @@
 use Rattle.std.specs.Prelude.{ℕ, zero, suc, ◌≡◌, ◌<◌, ◌≤◌, Option, None, IsSomeAnd, Result, Ok, Err, List, [], ◌∷◌, min}
 use Rattle.heap_geometry.specs.declared.geometry.Geometry.{Geometry}
 use Rattle.heap_geometry.specs.Geometry.{IsChecked}
+use Rattle.heap_geometry.specs.declared.limits.TheConstants.{CLASSES}
 use Rattle.live_heap.specs.Heaps.{HeapFields}
 use Rattle.live_heap.specs.Passes.{IsFresh}
 use Rattle.block_cache.specs.Caches.{cached_in}
@@ -9,6 +10,7 @@ use Rattle.balloc_c.specs.declared.hand.Hand.{Hand}
 use Rattle.balloc_c.specs.declared.handle.PassHandle.{PassHandle}
 use Rattle.balloc_c.specs.declared.refusal.Refusal.{Refusal}
 use Rattle.balloc_c.specs.declared.refusal.Refusal.TheVariants as refusal
+use Rattle.balloc_c.specs.Laid.{room_of}
 use Rattle.balloc_c.specs.Slots.{blocks_of}
 use Rattle.balloc_c.specs.Hands.{heap_of}
 
@@ -31,7 +33,7 @@ AreEmpty handles = (number : ℕ) → held_at handles number ≡ None
 abbrev pub Fit : Geometry → ℕ → Type 0
 Fit g depth = IsChecked g × (depth ≤ 64)
 
--- the pass of this caller of the heap, with the ticket for it, which has made no step, and has no block and no slot for one; its magazines are empty, and have room for so many each
+-- the pass of this caller of the heap, with the ticket for it, which has made no step, and has no block and no slot for one; its magazines are empty, and have room for so many each, and so many it may keep whose words are out
 pub record IsNew (h : HeapFields) (number depth : ℕ) (hand : Hand) : Type 0 where
   pub heap : heap_of hand ≡ h
   pub fresh : IsFresh h hand.cache.pass
@@ -41,6 +43,7 @@ pub record IsNew (h : HeapFields) (number depth : ℕ) (hand : Hand) : Type 0 wh
   pub blocks : blocks_of hand.table.slots.items ≡ []
   pub empty : cached_in hand.cache ≡ []
   pub deep : hand.cache.magazines.depth ≡ depth
+  pub rooms : (class : ℕ) → class < CLASSES → room_of hand.table class ≡ depth
   pub hits : hand.cache.hits ≡ 0
 
 -- the first handles hold the passes of the first callers of the heap

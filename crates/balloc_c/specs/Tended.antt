@@ -1,8 +1,12 @@
 -- What is so of a pass for C between calls. The words of some of its blocks may be out with C.
-use Rattle.std.specs.Prelude.{ℕ, ◌+◌, ◌++◌, Option, Some, None, List, []}
+use Rattle.std.specs.Prelude.{ℕ, ◌≡◌, ◌+◌, ◌%◌, ◌++◌, Option, Some, None, List, [], length}
 use Rattle.errand_steps.specs.Begins.{IsBusy, IsIdle}
 use Rattle.errand_steps.specs.Calls.{Call}
+use Rattle.heap_geometry.specs.declared.need.Need.{Need}
+use Rattle.heap_geometry.specs.Need.{usable_words}
+use Rattle.plain_words.specs.declared.plain.PlainWords.{PlainWords}
 use Rattle.plain_words.specs.Owned.{Lies}
+use Rattle.plain_words.specs.Places.{AllHere}
 use Rattle.live_heap.specs.declared.block.Block.{Block}
 use Rattle.live_heap.specs.declared.pass.Pass.{Pass}
 use Rattle.live_heap.specs.Answers.{IsTried}
@@ -45,11 +49,24 @@ pub record HasAll (h : HeapFields) (p : Pass) (blocks : List Block) : Type 0 whe
   pub at_rest : IsIdle p.errand → HoldsExactly (at_home p) blocks
   pub in_call : IsBusy p.errand → HasAllInCall h p blocks
 
--- the words of a slot's block are home, or they are out, and the first of them has an address
+-- words are those of the block at the place, that serves the need, all of them, as plain memory; some may never have been written
+pub record IsRoomAt (h : HeapFields) (place : ℕ) (need : Need) (words : PlainWords) : Type 0 where
+  pub at : words.at ≡ h.region.at
+  pub first : words.first ≡ place + 1
+  pub long : length words.places ≡ usable_words need
+  pub here : AllHere words.places
+
+-- the words of the block are out, the first of them has an address, and that is a multiple of 16
+abbrev pub IsOutAt : HeapFields → Pass → ℕ → Need → Type 0
+IsOutAt h p place need = IsTaken p place need × Lies h.region.at (place + 1) × (place % 2 ≡ 0)
+
+-- the words of a slot's block are home, or they are out, with C or with the pass
 abbrev pub Stands : HeapFields → Pass → Option Kept → Type 0
 Stands h p None = Unit {0}
 Stands h p (Some (kept.Home block)) = IsHome p block.place
-Stands h p (Some (kept.Out lent)) = IsTaken p lent.place lent.need × Lies h.region.at (lent.place + 1)
+Stands h p (Some (kept.Out lent)) = IsOutAt h p lent.place lent.need
+Stands h p (Some (kept.Laid memory)) =
+    IsOutAt h p memory.block.place memory.block.need × IsRoomAt h memory.block.place memory.block.need memory.words
 
 -- the cache is one in front of the heap; the blocks in slots and those in magazines are all that its caller owns, each once, but for the one that a call under way is about; and the words of each stand as its slot says
 pub record Tends (h : HeapFields) (c : Cache) (slots : List Slot) : Type 0 where

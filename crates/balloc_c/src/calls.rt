@@ -4,24 +4,29 @@ ghost use Rattle.std.specs.Prelude.{ℕ, ◌≡◌, ◌<◌, ◌%◌, ◌^◌, N
 ghost use Rattle.errand_steps.specs.Begins.{IsIdle};
 ghost use Rattle.live_heap.specs.declared.block.Block.{Block};
 ghost use Rattle.live_heap.specs.Heaps.{HeapFields};
+ghost use Rattle.live_heap.specs.declared.plain.Memory.{Memory};
 ghost use Rattle.block_cache.specs.Caches.{IsCache};
 ghost use Rattle.balloc_c.specs.declared.kept.Kept.TheVariants as kept;
 ghost use Rattle.balloc_c.specs.Outcomes.{TellsWords, HasAllocated, HasFreed, HasPut, HasRead, HasResumed, HasTaken, HasWritten};
-ghost use Rattle.balloc_c.specs.Closed.{FreesSlot, FreesTable, HasFreedAll, has_out};
-ghost use Rattle.balloc_c.specs.Kept.{is_out};
+ghost use Rattle.balloc_c.specs.Closed.{FreesSlot, FreesTable, HasFreedAll, HasHomed, has_out};
+ghost use Rattle.balloc_c.specs.Kept.{is_laid, is_out};
+ghost use Rattle.balloc_c.specs.Laid.{HasTurned};
 ghost use Rattle.balloc_c.specs.Numbers.{named};
 ghost use Rattle.balloc_c.specs.Packed.{HasOneMoreAtMost, IsPacked};
-ghost use Rattle.balloc_c.specs.Slots.{block_at, blocks_of, set_block};
+ghost use Rattle.balloc_c.specs.Slots.{block_at, set_block};
 ghost use Rattle.balloc_c.specs.Tended.{Tends};
 
 use crate::kept::Kept;
+use crate::lent::LentBlock;
 use crate::refusal::Refusal;
 use crate::table::Table;
+use crate::zeroed::zeroed;
 use block_cache::cache::Cache;
 use heap_geometry::limits::{LARGE_MOST, SHELVES};
 use heap_geometry::need::{Need, class_of};
 use live_heap::answers::{AllocAnswer, FreeAnswer, Full, Resumed, Taken};
 use live_heap::heap::Heap;
+use live_heap::plain::Memory;
 
 /// How many lost exchanges interrupt a call.
 pub const TRIES: u32 = 1000;
@@ -90,7 +95,7 @@ fn alloc_here(heap: &Heap, cache: &mut Cache, table: &mut Table, words: u32) -> 
         Err(refusal) => return Err(refusal),
     };
     match cache.alloc(heap, words, TRIES) {
-        AllocAnswer::Given(block) => Ok(table.fill(index, Kept::Home(block))),
+        AllocAnswer::Given(block) => Ok(table.fill(index, block)),
         AllocAnswer::Refused => Err(Refusal::Exhausted),
         AllocAnswer::TooLarge => Err(Refusal::TooLarge),
         AllocAnswer::Spent => Err(Refusal::Spent),
@@ -185,7 +190,7 @@ fn free_slots(heap: &Heap, cache: &mut Cache, table: &mut Table) -> FreeAnswer
     FreeAnswer::Freed
 }
 
-/// Frees the block in a slot, where there is one.
+/// Frees the block in a slot, where there is one. Words that the pass keeps come home before.
 fn free_slot(heap: &Heap, cache: &mut Cache, table: &mut Table, index: usize) -> FreeAnswer
     requires tends { Tends heap.now cache.old table.old.slots.items }
     requires packed { IsPacked table.old }
@@ -195,7 +200,45 @@ fn free_slot(heap: &Heap, cache: &mut Cache, table: &mut Table, index: usize) ->
     ensures tends { Tends heap.now cache.new table.new.slots.items }
     ensures packed { IsPacked table.new }
     ensures idle { result ≡ FreeAnswer.Freed → IsIdle cache.new.pass.errand }
-    ensures blocks { blocks_of table.new.slots.items ≡ blocks_of (set_block table.old.slots.items index None) }
+    ensures count { length table.new.slots.items ≡ length table.old.slots.items }
+    ensures same { (other : ℕ) → block_at table.new.slots.items other ≡ block_at (set_block table.old.slots.items index None) other }
+    ensures freed { FreesSlot cache.old (block_at table.old.slots.items index) result cache.new }
+{
+    if table.is_laid(index) {
+        return free_laid(heap, cache, table, index);
+    }
+    free_kept(heap, cache, table, index)
+}
+
+/// Frees the block in a slot, whose words the pass keeps.
+fn free_laid(heap: &Heap, cache: &mut Cache, table: &mut Table, index: usize) -> FreeAnswer
+    requires tends { Tends heap.now cache.old table.old.slots.items }
+    requires packed { IsPacked table.old }
+    requires idle { IsIdle cache.old.pass.errand }
+    requires within { index < length table.old.slots.items }
+    requires laid { is_laid (block_at table.old.slots.items index) ≡ true }
+    ensures tends { Tends heap.now cache.new table.new.slots.items }
+    ensures packed { IsPacked table.new }
+    ensures idle { result ≡ FreeAnswer.Freed → IsIdle cache.new.pass.errand }
+    ensures count { length table.new.slots.items ≡ length table.old.slots.items }
+    ensures same { (other : ℕ) → block_at table.new.slots.items other ≡ block_at (set_block table.old.slots.items index None) other }
+    ensures freed { FreesSlot cache.old (block_at table.old.slots.items index) result cache.new }
+{
+    bring_laid(heap, cache, table, index);
+    free_kept(heap, cache, table, index)
+}
+
+/// Frees the block in a slot, where there is one, whose words are home.
+fn free_kept(heap: &Heap, cache: &mut Cache, table: &mut Table, index: usize) -> FreeAnswer
+    requires tends { Tends heap.now cache.old table.old.slots.items }
+    requires packed { IsPacked table.old }
+    requires idle { IsIdle cache.old.pass.errand }
+    requires within { index < length table.old.slots.items }
+    requires home { is_out (block_at table.old.slots.items index) ≡ false }
+    requires not_laid { is_laid (block_at table.old.slots.items index) ≡ false }
+    ensures tends { Tends heap.now cache.new table.new.slots.items }
+    ensures packed { IsPacked table.new }
+    ensures idle { result ≡ FreeAnswer.Freed → IsIdle cache.new.pass.errand }
     ensures count { length table.new.slots.items ≡ length table.old.slots.items }
     ensures same { (other : ℕ) → block_at table.new.slots.items other ≡ block_at (set_block table.old.slots.items index None) other }
     ensures freed { FreesSlot cache.old (block_at table.old.slots.items index) result cache.new }
@@ -206,8 +249,29 @@ fn free_slot(heap: &Heap, cache: &mut Cache, table: &mut Table, index: usize) ->
             table.retire(index);
             cache.free(heap, block, TRIES)
         }
-        Some(Kept::Out(_)) => unreachable!(),
+        Some(_) => unreachable!(),
     }
+}
+
+/// Words that the pass keeps in a slot come home, as zeros.
+fn bring_laid(heap: &Heap, cache: &mut Cache, table: &mut Table, index: usize)
+    requires tends { Tends heap.now cache.old table.old.slots.items }
+    requires packed { IsPacked table.old }
+    requires idle { IsIdle cache.old.pass.errand }
+    requires within { index < length table.old.slots.items }
+    requires laid { is_laid (block_at table.old.slots.items index) ≡ true }
+    ensures tends { Tends heap.now cache.new table.new.slots.items }
+    ensures packed { IsPacked table.new }
+    ensures idle { IsIdle cache.new.pass.errand }
+    ensures homed { (memory : Memory) × (block_at table.old.slots.items index ≡ Some (kept.Laid memory)) × HasHomed cache.old memory cache.new
+        × HasTurned table.old.slots.items index (kept.Home memory.block) table.new.slots.items }
+{
+    let memory = table.take_laid(index);
+    let place = memory.place();
+    let need = memory.need();
+    let words = zeroed(heap, &LentBlock::new(place, need), memory.into_words());
+    let homed = cache.bring_home(heap, Memory::of_words(place, need, words));
+    let _ = table.set(index, Some(Kept::Home(homed)));
 }
 
 /// Goes on with the call that was interrupted. Answers the number of a block that it got.
@@ -227,7 +291,7 @@ pub fn resume(heap: &Heap, cache: &mut Cache, table: &mut Table) -> Result<Optio
         Err(refusal) => return Err(refusal),
     };
     match cache.resume(heap, TRIES) {
-        Resumed::Given(block) => Ok(Some(table.fill(index, Kept::Home(block)))),
+        Resumed::Given(block) => Ok(Some(table.fill(index, block))),
         Resumed::Freed => Ok(None),
         Resumed::Refused => Err(Refusal::Exhausted),
         Resumed::Spent => Err(Refusal::Spent),
@@ -267,12 +331,10 @@ pub fn write(
     let Some(index) = table.find(number) else {
         return Err(Refusal::NoBlock);
     };
-    let Some(kept) = table.block(index) else {
-        return Err(Refusal::NoBlock);
-    };
-    let Kept::Home(block) = kept else {
+    if table.is_out(index) {
         return Err(Refusal::Out);
-    };
+    }
+    let block = table.home(index);
     if i >= block.usable_words() {
         return Err(Refusal::NoWord);
     }
@@ -298,12 +360,10 @@ pub fn read(
     let Some(index) = table.find(number) else {
         return Err(Refusal::NoBlock);
     };
-    let Some(kept) = table.block(index) else {
-        return Err(Refusal::NoBlock);
-    };
-    let Kept::Home(block) = kept else {
+    if table.is_out(index) {
         return Err(Refusal::Out);
-    };
+    }
+    let block = table.home(index);
     if i >= block.usable_words() {
         return Err(Refusal::NoWord);
     }
@@ -370,7 +430,7 @@ pub fn take(heap: &Heap, cache: &mut Cache, table: &mut Table, shelf: u8) -> Res
         Err(refusal) => return Err(refusal),
     };
     match cache.take(heap, shelf) {
-        Taken::Got(block) => Ok(table.fill(index, Kept::Home(block))),
+        Taken::Got(block) => Ok(table.fill(index, block)),
         Taken::Empty => Err(Refusal::ShelfEmpty),
         Taken::Missed { .. } => Err(Refusal::ShelfMissed),
     }

@@ -1,7 +1,9 @@
 //! A pass with its magazines, its share in the heap and its blocks.
 
-ghost use Rattle.std.specs.Prelude.{ℕ, ◌≡◌, [], Result};
+ghost use Rattle.std.specs.Prelude.{ℕ, ◌≡◌, ◌<◌, [], Result};
+ghost use Rattle.heap_geometry.specs.declared.limits.TheConstants.{CLASSES};
 ghost use Rattle.std.specs.Arc.{arc_value};
+ghost use Rattle.balloc_c.specs.Laid.{room_of};
 ghost use Rattle.balloc_c.specs.Packed.{IsPacked};
 ghost use Rattle.balloc_c.specs.Tended.{Tends};
 ghost use Rattle.shared_heap.specs.Shares.{IsTicketOf};
@@ -36,24 +38,31 @@ impl Hand {
     ghost use Rattle.balloc_c.specs.Closed.{GivesBack, LeavesBlocks, TellsCensus};
     ghost use Rattle.balloc_c.specs.Ranges.{HasFilled, HasReadRange, HasSummed, HasWrittenRange, IsFound};
     ghost use Rattle.balloc_c.specs.Hands.{IsTended, heap_of};
-    ghost use Rattle.balloc_c.specs.Lending.{AllocatesMemory, AreNumbers, BringsHome, FreesBack, HasToldMemory, IsBackFor, StayOut};
+    ghost use Rattle.balloc_c.specs.Lending.{AllocatesMemory, AllocatesNew, AreNumbers, BringsHome, FreesBack, HasToldMemory, IsBackFor, StayOut};
     ghost use Rattle.balloc_c.specs.Numbers.{named};
     ghost use Rattle.balloc_c.specs.declared.refusal.Refusal.{Refusal};
     ghost use Rattle.balloc_c.specs.declared.refusal.Refusal.TheVariants as refusal;
     ghost use Rattle.balloc_c.specs.Codes.{code_of, value_in, word_in, word_of};
 
-    /// A pass with no block, and no slot for one.
-    pub fn new(alloc: Global, heap: Arc<SharedHeap, Global>, ticket: Ticket, cache: Cache) -> Hand
+    /// A pass with no block, and no slot for one, which keeps memory of so many of a class.
+    pub fn new(
+        alloc: Global,
+        heap: Arc<SharedHeap, Global>,
+        ticket: Ticket,
+        cache: Cache,
+        depth: u8,
+    ) -> Hand
         requires tends { Tends (arc_value heap).heap cache [] }
         requires ticket { IsTicketOf (arc_value heap) ticket.caller ticket }
         ensures parts { (arc_value result.heap ≡ arc_value heap) × (result.cache ≡ cache) × (result.ticket ≡ ticket) }
         ensures bare { result.table.slots.items ≡ [] }
+        ensures rooms { (class : ℕ) → class < CLASSES → room_of result.table class ≡ depth }
     {
         Hand {
             heap,
             ticket,
             cache,
-            table: Table::new(alloc),
+            table: Table::new(alloc, depth),
             rest: [0; 16],
         }
     }
@@ -71,13 +80,35 @@ impl Hand {
         calls::alloc(self.heap.heap(), &mut self.cache, &mut self.table, words)
     }
 
-    /// An allocation of so many bytes, whose memory goes out. Tells the block's number.
+    /// An allocation of so many bytes, whose memory goes out: what the pass keeps, or a block's. Tells the block's number.
     pub fn alloc_memory(&mut self, bytes: usize, id: &mut u64) -> Handed
         ensures { (outcome : Result ℕ Refusal) × (result.code ≡ word_in outcome) × (id.new ≡ value_in outcome id.old)
             × Makes (λ c t answer d u. AllocatesMemory (heap_of self.old) c t bytes answer result.memory result.words d u) self.old outcome self.new }
     {
         self.tended();
-        lending::alloc_memory(
+        match lending::next_ready(&self.cache, &self.table, bytes) {
+            Some((index, class)) => lending::give_again(
+                self.heap.heap(),
+                &self.cache,
+                &mut self.table,
+                index,
+                class,
+                bytes,
+                id,
+            ),
+            None => self.alloc_new(bytes, id),
+        }
+    }
+
+    /// An allocation of a block of so many bytes, whose memory goes out. It stands apart, so that memory that is given again
+    /// saves no registers for it.
+    #[inline(never)]
+    fn alloc_new(&mut self, bytes: usize, id: &mut u64) -> Handed
+        ensures { (outcome : Result ℕ Refusal) × (result.code ≡ word_in outcome) × (id.new ≡ value_in outcome id.old)
+            × Makes (λ c t answer d u. AllocatesNew (heap_of self.old) c t bytes answer result.memory result.words d u) self.old outcome self.new }
+    {
+        self.tended();
+        lending::alloc_new(
             self.heap.heap(),
             &mut self.cache,
             &mut self.table,

@@ -1,4 +1,5 @@
-//! What a slot of the table has: a block that is home, or what is known of one whose memory is out with C.
+//! What a slot of the table has: a block that is home, what is known of one whose memory is out with C, or memory that the
+//! pass keeps.
 
 ghost use Rattle.std.specs.Prelude.{◌≡◌};
 ghost use Rattle.heap_geometry.specs.Need.{usable_words};
@@ -7,6 +8,7 @@ ghost use Rattle.balloc_c.specs.Kept.{block_of};
 use crate::lent::LentBlock;
 use heap_geometry::need::usable;
 use live_heap::block::Block;
+use live_heap::plain::Memory;
 
 /// A block of a pass.
 #[derive(Drop)]
@@ -15,6 +17,8 @@ pub enum Kept {
     Home(Block),
     /// Its words are out with C.
     Out(LentBlock),
+    /// Its words are out, and the pass keeps them to give them again: no number names it.
+    Laid(Memory),
 }
 
 impl Kept {
@@ -25,6 +29,7 @@ impl Kept {
         match self {
             Kept::Home(block) => block.usable_words(),
             Kept::Out(lent) => usable(lent.need),
+            Kept::Laid(memory) => memory.usable_words(),
         }
     }
 }

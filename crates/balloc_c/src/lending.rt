@@ -1,12 +1,17 @@
 //! How the memory of a block goes out to C, and comes home.
 
-ghost use Rattle.std.specs.Prelude.{ℕ, ◌≡◌, ◌<◌, ◌+◌, ◌%◌, ◌^◌, None, Result, Some, length};
+ghost use Rattle.std.specs.Prelude.{ℕ, ◌≡◌, ◌≢◌, ◌<◌, ◌≤◌, ◌+◌, ◌%◌, ◌^◌, IfSome, None, Result, Some, false, length};
+ghost use Rattle.heap_geometry.specs.Need.{need_of};
+ghost use Rattle.heap_geometry.specs.declared.limits.TheConstants.{CLASSES, LARGE_MOST, SMALL_MOST};
+ghost use Rattle.heap_geometry.specs.declared.need.Need.TheVariants.{Small};
 ghost use Rattle.errand_steps.specs.Begins.{IsIdle};
 ghost use Rattle.live_heap.specs.declared.block.Block.{Block};
+ghost use Rattle.live_heap.specs.Heaps.{HeapFields};
+ghost use Rattle.block_cache.specs.Caches.{IsCache};
 ghost use Rattle.live_heap.specs.declared.plain.Memory.{Memory as Lot};
 ghost use Rattle.live_heap.specs.Memory.{IsMemoryOf};
 ghost use Rattle.plain_words.specs.Owned.{Lies};
-ghost use Rattle.plain_words.specs.Places.{laids, numbers};
+ghost use Rattle.plain_words.specs.Places.{numbers};
 ghost use Rattle.plain_words.specs.declared.plain.PlainWords.{PlainWords as Words};
 ghost use Rattle.balloc_c.specs.declared.kept.Kept.TheVariants as kept;
 ghost use Rattle.balloc_c.specs.declared.refusal.Refusal.{Refusal as Cause};
@@ -14,7 +19,8 @@ ghost use Rattle.balloc_c.specs.declared.refusal.Refusal.TheVariants as refusal;
 ghost use Rattle.balloc_c.specs.Codes.{code_of, value_in, word_in, word_of};
 ghost use Rattle.balloc_c.specs.declared.lent.LentBlock.{LentBlock as Out};
 ghost use Rattle.balloc_c.specs.Kept.{block_of};
-ghost use Rattle.balloc_c.specs.Lending.{AllocatesMemory, AreNumbers, BringsHome, FreesBack, HasComeHome, HasGoneOut, HasToldMemory, IsBackFor, IsRoomFor, StayOut, memory_at, words_for, zeros};
+ghost use Rattle.balloc_c.specs.Laid.{IsReady, IsReadyIn, first_of};
+ghost use Rattle.balloc_c.specs.Lending.{AllocatesNew, AreNumbers, BringsHome, FreesBack, FreesHome, GivesAgain, HasComeHome, HasGoneOut, HasToldMemory, IsBackFor, IsRoomFor, StayOut, memory_at, words_for};
 ghost use Rattle.balloc_c.specs.Numbers.{named};
 ghost use Rattle.balloc_c.specs.Packed.{HasOneMoreAtMost, IsPacked};
 ghost use Rattle.balloc_c.specs.Slots.{block_at, blocks_of};
@@ -26,9 +32,9 @@ use crate::kept::Kept;
 use crate::lent::LentBlock;
 use crate::refusal::Refusal;
 use crate::table::Table;
+use crate::zeroed::zeroed;
 use block_cache::cache::Cache;
-use heap_geometry::limits::LARGE_MOST;
-use heap_geometry::need::usable;
+use heap_geometry::limits::{LARGE_MOST, SMALL_MOST};
 use live_heap::heap::Heap;
 use live_heap::plain::Memory;
 use plain_words::PlainWords;
@@ -128,20 +134,8 @@ fn come_home(
     let _ = table.set(index, Some(Kept::Home(block)));
 }
 
-/// The same words, each of them 0.
-fn zeroed(heap: &Heap, lent: &LentBlock, words: PlainWords) -> PlainWords
-    requires { IsRoomFor heap.now lent.now words }
-    ensures { (result.at ≡ words.at) × (result.first ≡ words.first) × (result.places ≡ laids (zeros words)) }
-{
-    let first = lent.place as usize + 1;
-    let end = first + usable(lent.need) as usize;
-    let mut words = words;
-    words.fill(heap.start(), first, end, 0);
-    words
-}
-
-/// The free of the block of this number, for which words that are out come home as zeros. Where a call is under way they
-/// go out again.
+/// The free of the block of this number. Words that are out stay so with the pass, where that has room for them, and else come
+/// home as zeros. Where a call is under way they go out again.
 pub fn free_back(
     heap: &Heap,
     cache: &mut Cache,
@@ -166,10 +160,43 @@ pub fn free_back(
         return Handed::none(Refusal::NoBlock.word());
     };
     if table.is_out(index) {
-        let freed = free_out(heap, cache, table, index, number, back);
-        return Handed::none(word(freed));
+        return free_lent(heap, cache, table, index, number, back);
     }
     Handed::none(word(free_home(heap, cache, table, index, number)))
+}
+
+/// The free of the block in a slot, whose number this is and whose words are out.
+#[inline(always)]
+fn free_lent(
+    heap: &Heap,
+    cache: &mut Cache,
+    table: &mut Table,
+    index: usize,
+    number: u64,
+    back: Handed,
+) -> Handed
+    requires tends { Tends heap.now cache.old table.old.slots.items }
+    requires packed { IsPacked table.old }
+    requires idle { IsIdle cache.old.pass.errand }
+    requires within { index < length table.old.slots.items }
+    requires is { index ≡ number % 2 ^ 32 }
+    requires words { (lent : Out) × (words : Words) × (block_at table.old.slots.items index ≡ Some (kept.Out lent)) × (back.words ≡ Some words)
+        × IsRoomFor heap.now lent words }
+    requires named { named table.old number ≡ block_at table.old.slots.items index }
+    requires names { named table.old number ≢ None }
+    ensures tends { Tends heap.now cache.new table.new.slots.items }
+    ensures packed { IsPacked table.new }
+    ensures few { HasOneMoreAtMost table.old table.new }
+    ensures answers { (outcome : Result (Unit {0}) Cause) × (result.code ≡ word_in outcome) × StayOut outcome result.words
+        × FreesBack heap.now cache.old table.old number back.words outcome result.words cache.new table.new }
+{
+    match table.room(index) {
+        Some(class) => {
+            table.lay(index, class, back.into_words());
+            Handed::none(word(Ok(())))
+        }
+        None => Handed::none(word(free_out(heap, cache, table, index, number, back))),
+    }
 }
 
 /// The free of the block in a slot, whose number this is and whose words are out. It stands apart, so that a free of words
@@ -194,7 +221,7 @@ fn free_out(
     ensures tends { Tends heap.now cache.new table.new.slots.items }
     ensures packed { IsPacked table.new }
     ensures few { HasOneMoreAtMost table.old table.new }
-    ensures answers { FreesBack heap.now cache.old table.old number back.words result None cache.new table.new }
+    ensures answers { FreesHome heap.now cache.old table.old number back.words result None cache.new table.new }
 {
     let Some(lent) = table.out(index) else {
         unreachable!();
@@ -251,8 +278,63 @@ fn least_words(bytes: usize) -> u32
     }
 }
 
-/// An allocation of so many bytes, whose words go out. Tells the block's number.
-pub fn alloc_memory(
+/// Whether a small block has so many bytes.
+#[inline(always)]
+fn is_small(bytes: usize) -> bool
+    ensures { result ≡ false → SMALL_MOST < words_for bytes }
+{
+    bytes <= 8 * SMALL_MOST as usize
+}
+
+/// The class of blocks for so many bytes, where no call is under way and the pass keeps memory of it, behind the slot whose
+/// memory is given next.
+#[inline(always)]
+pub fn next_ready(cache: &Cache, table: &Table, bytes: usize) -> Option<(usize, u8)>
+    requires { (h : HeapFields) × IsCache h cache.now }
+    ensures ready { IfSome result (λ next. IsIdle cache.now.pass.errand × (next.1 < CLASSES) × (words_for bytes ≤ LARGE_MOST)
+        × (need_of (words_for bytes) ≡ Small next.1) × (next.0 ≡ first_of table.now next.1) × ((memory : Lot) × IsReadyIn table.now next.1 memory)) }
+    ensures none { result ≡ None → IsIdle cache.now.pass.errand → (memory : Lot) → ¬ IsReady table.now (need_of (words_for bytes)) memory }
+{
+    if !cache.idle() {
+        return None;
+    }
+    if !is_small(bytes) {
+        return None;
+    }
+    table.ready(least_words(bytes))
+}
+
+/// Memory that the pass keeps for a class goes out again. Tells the block's number.
+#[inline(always)]
+pub fn give_again(
+    heap: &Heap,
+    _cache: &Cache,
+    table: &mut Table,
+    index: usize,
+    class: u8,
+    _bytes: usize,
+    id: &mut u64,
+) -> Handed
+    requires tends { Tends heap.now _cache.now table.old.slots.items }
+    requires packed { IsPacked table.old }
+    requires within { class < CLASSES }
+    requires first { index ≡ first_of table.old class }
+    requires ready { (memory : Lot) × IsReadyIn table.old class memory }
+    requires words { (words_for _bytes ≤ LARGE_MOST) × (need_of (words_for _bytes) ≡ Small class) }
+    ensures tends { Tends heap.now _cache.now table.new.slots.items }
+    ensures packed { IsPacked table.new }
+    ensures count { length table.new.slots.items ≡ length table.old.slots.items }
+    ensures code { result.code ≡ 0 }
+    ensures again { IsIdle _cache.now.pass.errand → GivesAgain heap.now _cache.now table.old _bytes id.new result.memory result.words _cache.now table.new }
+{
+    let (number, memory) = table.lift(index, class);
+    *id = number;
+    let first = memory.place() as usize + 1;
+    Handed::of_words(memory.into_words(), heap.start(), first, MADE)
+}
+
+/// An allocation of a block of so many bytes, whose words go out. Tells the block's number.
+pub fn alloc_new(
     heap: &Heap,
     cache: &mut Cache,
     table: &mut Table,
@@ -265,7 +347,7 @@ pub fn alloc_memory(
     ensures packed { IsPacked table.new }
     ensures few { HasOneMoreAtMost table.old table.new }
     ensures answers { (outcome : Result ℕ Cause) × (result.code ≡ word_in outcome) × (id.new ≡ value_in outcome id.old)
-        × AllocatesMemory heap.now cache.old table.old bytes outcome result.memory result.words cache.new table.new }
+        × AllocatesNew heap.now cache.old table.old bytes outcome result.memory result.words cache.new table.new }
 {
     match alloc(heap, cache, table, least_words(bytes)) {
         Ok(number) => {

@@ -15,6 +15,7 @@ mod handed;
 mod handle;
 mod handled;
 mod kept;
+mod laid;
 pub mod laws;
 mod lending;
 mod lent;
@@ -23,6 +24,7 @@ mod parts;
 mod ranges;
 mod refusal;
 mod table;
+mod zeroed;
 
 ghost use Rattle.std.specs.Prelude.{ℕ, ◌≡◌, Option, Result, length};
 ghost use Rattle.std.specs.Borrow.{sem};

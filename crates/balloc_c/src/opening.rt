@@ -104,7 +104,7 @@ fn give_all(
         let own = heap.heap();
         let cache = cached(alloc, own, pass, depth)?;
         let ticket = heap.ticket(&mut dealer);
-        let hand = Box::new(alloc, Hand::new(alloc, share, ticket, cache))?;
+        let hand = Box::new(alloc, Hand::new(alloc, share, ticket, cache, depth))?;
         drop(passes[number].take(alloc));
         passes[number].give(hand);
         number += 1;

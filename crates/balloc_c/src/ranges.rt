@@ -5,7 +5,6 @@ ghost use Rattle.heap_geometry.specs.Need.{usable_words};
 ghost use Rattle.balloc_c.specs.Ranges.{HasFilled, HasReadRange, HasSummed, HasWrittenRange, IsFound};
 ghost use Rattle.balloc_c.specs.Tended.{Tends};
 
-use crate::kept::Kept;
 use crate::refusal::Refusal;
 use crate::table::Table;
 use block_cache::cache::Cache;
@@ -31,12 +30,10 @@ pub fn write_range(
     let Some(index) = table.find(number) else {
         return Err(Refusal::NoBlock);
     };
-    let Some(kept) = table.block(index) else {
-        return Err(Refusal::NoBlock);
-    };
-    let Kept::Home(block) = kept else {
+    if table.is_out(index) {
         return Err(Refusal::Out);
-    };
+    }
+    let block = table.home(index);
     if !has_range(block, from, words.len()) {
         return Err(Refusal::NoWord);
     }
@@ -64,12 +61,10 @@ pub fn read_range(
     let Some(index) = table.find(number) else {
         return Err(Refusal::NoBlock);
     };
-    let Some(kept) = table.block(index) else {
-        return Err(Refusal::NoBlock);
-    };
-    let Kept::Home(block) = kept else {
+    if table.is_out(index) {
         return Err(Refusal::Out);
-    };
+    }
+    let block = table.home(index);
     if !has_range(block, from, words.len()) {
         return Err(Refusal::NoWord);
     }
@@ -95,12 +90,10 @@ pub fn fill(
     let Some(index) = table.find(number) else {
         return Err(Refusal::NoBlock);
     };
-    let Some(kept) = table.block(index) else {
-        return Err(Refusal::NoBlock);
-    };
-    let Kept::Home(block) = kept else {
+    if table.is_out(index) {
         return Err(Refusal::Out);
-    };
+    }
+    let block = table.home(index);
     cache.fill(heap, block, from);
     Ok(())
 }
@@ -117,12 +110,10 @@ pub fn sum(heap: &Heap, cache: &mut Cache, table: &Table, number: u64) -> Result
     let Some(index) = table.find(number) else {
         return Err(Refusal::NoBlock);
     };
-    let Some(kept) = table.block(index) else {
-        return Err(Refusal::NoBlock);
-    };
-    let Kept::Home(block) = kept else {
+    if table.is_out(index) {
         return Err(Refusal::Out);
-    };
+    }
+    let block = table.home(index);
     Ok(cache.sum(heap, block))
 }
 

@@ -1,17 +1,25 @@
 //! The table of a pass's blocks. A number names a slot, and how often that slot has given a block away.
 
-ghost use Rattle.std.specs.Prelude.{ℕ, ◌≡◌, ◌≢◌, ◌<◌, ◌≤◌, ◌%◌, ◌^◌, [], length, None, Some, false, IfOk, IfSome, true};
+ghost use Rattle.std.specs.Prelude.{ℕ, ◌≡◌, ◌≢◌, ◌<◌, ◌≤◌, ◌+◌, ◌%◌, ◌^◌, [], length, None, Some, false, IfOk, IfSome, true};
 ghost use Rattle.std.specs.Result.{IfErr};
+ghost use Rattle.heap_geometry.specs.Need.{need_of};
+ghost use Rattle.heap_geometry.specs.declared.limits.TheConstants.{CLASSES, LARGE_MOST};
+ghost use Rattle.heap_geometry.specs.declared.need.Need.TheVariants.{Small};
 ghost use Rattle.live_heap.specs.declared.block.Block.{Block};
+ghost use Rattle.live_heap.specs.declared.plain.Memory.{Memory};
 ghost use Rattle.balloc_c.specs.declared.kept.Kept.TheVariants as kept;
 ghost use Rattle.balloc_c.specs.declared.lent.LentBlock.{LentBlock as Out};
 ghost use Rattle.balloc_c.specs.declared.refusal.Refusal.TheVariants as refusal;
 ghost use Rattle.balloc_c.specs.declared.table.TheConstants.{NONE};
 
 use crate::kept::Kept;
+use crate::laid::Laid;
 use crate::lent::LentBlock;
 use crate::refusal::Refusal;
+use heap_geometry::need::{Need, class_of};
 use live_heap::block::Block;
+use live_heap::plain::Memory;
+use plain_words::PlainWords;
 use std::alloc::Global;
 
 /// No slot has this index.
@@ -23,8 +31,48 @@ pub struct Slot {
     block: Option<Kept>,
     /// How often the slot has given a block away, modulo 2^32.
     age: u32,
-    /// The slot that was spare before this one.
+    /// The slot that was spare before this one; where the pass keeps its memory, the one that is given after it.
     next: u32,
+}
+
+impl Slot {
+    ghost use Rattle.balloc_c.specs.Kept.{block_of, memory_of};
+
+    /// The words of its block, which were out, are kept here, and no number names it any more.
+    #[inline(always)]
+    fn lay(&mut self, next: u32, words: PlainWords)
+        requires { (lent : Out) × (self.old.block ≡ Some (kept.Out lent)) }
+        ensures laid { (lent : Out) × (self.old.block ≡ Some (kept.Out lent)) × (self.new.block ≡ Some (kept.Laid (memory_of lent words))) }
+        ensures age { self.new.age ≡ (self.old.age + 1) % 2 ^ 32 }
+        ensures next { self.new.next ≡ next }
+    {
+        match std::mem::replace(&mut self.block, None) {
+            Some(Kept::Out(lent)) => {
+                self.block = Some(Kept::Laid(Memory::of_words(lent.place, lent.need, words)));
+            }
+            _ => unreachable!(),
+        }
+        self.age = self.age.wrapping_add(1);
+        self.next = next;
+    }
+
+    /// The words that are kept here go out.
+    #[inline(always)]
+    fn lift(&mut self) -> Memory
+        requires { (memory : Memory) × (self.old.block ≡ Some (kept.Laid memory)) }
+        ensures laid { self.old.block ≡ Some (kept.Laid result) }
+        ensures out { (lent : Out) × (self.new.block ≡ Some (kept.Out lent)) × (block_of (kept.Out lent) ≡ result.block) }
+        ensures age { self.new.age ≡ self.old.age }
+        ensures next { self.new.next ≡ self.old.next }
+    {
+        match std::mem::replace(&mut self.block, None) {
+            Some(Kept::Laid(memory)) => {
+                self.block = Some(Kept::Out(LentBlock::new(memory.place(), memory.need())));
+                memory
+            }
+            _ => unreachable!(),
+        }
+    }
 }
 
 /// The blocks of a pass.
@@ -33,22 +81,27 @@ pub struct Table {
     slots: Vec<Slot>,
     /// The slot for the next block.
     spare: u32,
+    /// What the pass keeps to give again. Each slot of a class names the next one, which binds nobody.
+    laid: Laid,
 }
 
 impl Table {
-    ghost use Rattle.balloc_c.specs.Kept.{is_out};
-    ghost use Rattle.balloc_c.specs.Numbers.{NamesOneMore, HasSpare, HasSlotReady, KeepsNumbers, named, number_at};
+    ghost use Rattle.balloc_c.specs.Kept.{block_of, is_laid, is_out, memory_of, seen};
+    ghost use Rattle.balloc_c.specs.Laid.{HasRoomFor, HasTurned, IsReady, IsReadyIn, first_of, room_of};
+    ghost use Rattle.balloc_c.specs.Numbers.{NamesOneLess, NamesOneMore, HasSpare, HasSlotReady, KeepsNumbers, named, number_at};
     ghost use Rattle.balloc_c.specs.Slots.{IsVacant, HasAged, block_at, blocks_of, next_at, set_block};
     ghost use Rattle.balloc_c.specs.Packed.{HasOneMoreAtMost, IsLinked, IsPacked};
 
-    /// No block, and no slot.
-    pub fn new(alloc: Global) -> Table
+    /// No block, and no slot, and room for the memory of so many of a class.
+    pub fn new(alloc: Global, depth: u8) -> Table
         ensures bare { result.slots.items ≡ [] }
         ensures packed { IsPacked result }
+        ensures rooms { (class : ℕ) → class < CLASSES → room_of result class ≡ depth }
     {
         Table {
             slots: Vec::new(alloc),
             spare: NONE,
+            laid: Laid::new(NONE, depth),
         }
     }
 
@@ -136,12 +189,49 @@ impl Table {
     {
         let index = (number % 0x1_0000_0000) as usize;
         if index < self.slots.len()
-            && self.number(index) == number
-            && self.slots[index].block.is_some()
+            && self.slots[index].age == (number / 0x1_0000_0000) as u32
+            && self.is_seen(index)
         {
             Some(index)
         } else {
             None
+        }
+    }
+
+    /// Whether a number can name what is in a slot.
+    #[inline(always)]
+    fn is_seen(&self, index: usize) -> bool
+        requires { index < length self.now.slots.items }
+        ensures yes { result ≡ true → (seen (block_at self.now.slots.items index) ≡ block_at self.now.slots.items index)
+            × (block_at self.now.slots.items index ≢ None) }
+        ensures no { result ≡ false → seen (block_at self.now.slots.items index) ≡ None }
+    {
+        match &self.slots[index].block {
+            Some(Kept::Home(_)) => true,
+            Some(Kept::Out(_)) => true,
+            Some(Kept::Laid(_)) => false,
+            None => false,
+        }
+    }
+
+    /// Whether the pass keeps the memory of the block in a slot.
+    pub fn is_laid(&self, index: usize) -> bool
+        requires { index < length self.now.slots.items }
+        ensures { result ≡ is_laid (block_at self.now.slots.items index) }
+    {
+        matches!(&self.slots[index].block, Some(Kept::Laid(_)))
+    }
+
+    /// The block in a slot, whose words are home.
+    #[inline(always)]
+    pub fn home(&self, index: usize) -> &Block
+        requires within { index < length self.now.slots.items }
+        requires home { (block : Block) × (block_at self.now.slots.items index ≡ Some (kept.Home block)) }
+        ensures { block_at self.now.slots.items index ≡ Some (kept.Home result.now) }
+    {
+        match &self.slots[index].block {
+            Some(Kept::Home(block)) => block,
+            _ => unreachable!(),
         }
     }
 
@@ -179,6 +269,7 @@ impl Table {
         requires out { (lent : Out) × (block_at self.old.slots.items index ≡ Some (kept.Out lent)) }
         ensures slots { self.new.slots.items ≡ set_block self.old.slots.items index None }
         ensures spare { self.new.spare ≡ self.old.spare }
+        ensures laid { self.new.laid ≡ self.old.laid }
         ensures value { block_at self.old.slots.items index ≡ Some (kept.Out result) }
     {
         match self.set(index, None) {
@@ -201,28 +292,44 @@ impl Table {
         }
     }
 
+    /// Takes memory out of its slot that the pass keeps.
+    pub fn take_laid(&mut self, index: usize) -> Memory
+        requires within { index < length self.old.slots.items }
+        requires laid { (memory : Memory) × (block_at self.old.slots.items index ≡ Some (kept.Laid memory)) }
+        ensures slots { self.new.slots.items ≡ set_block self.old.slots.items index None }
+        ensures spare { self.new.spare ≡ self.old.spare }
+        ensures laid { self.new.laid ≡ self.old.laid }
+        ensures value { block_at self.old.slots.items index ≡ Some (kept.Laid result) }
+    {
+        match self.set(index, None) {
+            Some(Kept::Laid(memory)) => memory,
+            _ => unreachable!(),
+        }
+    }
+
     /// Puts a block into a slot, or nothing, and answers what was there.
     pub fn set(&mut self, index: usize, block: Option<Kept>) -> Option<Kept>
         requires { index < length self.old.slots.items }
         ensures slots { self.new.slots.items ≡ set_block self.old.slots.items index block }
         ensures spare { self.new.spare ≡ self.old.spare }
+        ensures laid { self.new.laid ≡ self.old.laid }
         ensures value { result ≡ block_at self.old.slots.items index }
     {
         std::mem::replace(&mut self.slots[index].block, block)
     }
 
     /// Puts a block into the spare slot, and answers its number.
-    pub fn fill(&mut self, index: usize, block: Kept) -> u64
+    pub fn fill(&mut self, index: usize, block: Block) -> u64
         requires vacant { IsVacant self.old.slots.items index }
         requires small { index < 2 ^ 32 }
         requires spare { self.old.spare ≡ index }
         requires packed { IsPacked self.old }
         ensures packed { IsPacked self.new }
-        ensures slots { self.new.slots.items ≡ set_block self.old.slots.items index (Some block) }
-        ensures gains { NamesOneMore self.old result block self.new }
+        ensures slots { self.new.slots.items ≡ set_block self.old.slots.items index (Some (kept.Home block)) }
+        ensures gains { NamesOneMore self.old result (kept.Home block) self.new }
     {
         self.unspare(index);
-        let _ = self.set(index, Some(block));
+        let _ = self.set(index, Some(Kept::Home(block)));
         self.number(index)
     }
 
@@ -247,5 +354,117 @@ impl Table {
         slot.age = slot.age.wrapping_add(1);
         slot.next = next;
         self.spare = index as u32;
+    }
+
+    /// The class of the block in a slot, whose words are out, where the pass has room for them.
+    #[inline(always)]
+    pub fn room(&self, index: usize) -> Option<u8>
+        requires within { index < length self.now.slots.items }
+        ensures room { IfSome result (λ class. (class < CLASSES) × (0 < room_of self.now class)
+            × ((lent : Out) × (block_at self.now.slots.items index ≡ Some (kept.Out lent)) × (lent.need ≡ Small class))) }
+        ensures none { result ≡ None → ¬ HasRoomFor self.now (block_at self.now.slots.items index) }
+    {
+        let Some(lent) = self.out(index) else {
+            return None;
+        };
+        let Need::Small(class) = lent.need else {
+            return None;
+        };
+        let room = self.laid.room(class);
+        if room == 0 {
+            return None;
+        }
+        Some(class)
+    }
+
+    /// The pass keeps the words of a block that were out: no number names it any more, and it is given next of its class.
+    #[inline(always)]
+    pub fn lay(&mut self, index: usize, class: u8, words: PlainWords)
+        requires packed { IsPacked self.old }
+        requires within { index < length self.old.slots.items }
+        requires small { index < 2 ^ 32 }
+        requires class { (class < CLASSES) × (0 < room_of self.old class) }
+        requires out { (lent : Out) × (block_at self.old.slots.items index ≡ Some (kept.Out lent)) × (lent.need ≡ Small class) }
+        ensures packed { IsPacked self.new }
+        ensures laid { (lent : Out) × (block_at self.old.slots.items index ≡ Some (kept.Out lent))
+            × HasTurned self.old.slots.items index (kept.Laid (memory_of lent words)) self.new.slots.items
+            × IsReadyIn self.new class (memory_of lent words) }
+        ensures chain { next_at self.new.slots.items index ≡ first_of self.old class }
+        ensures fewer { room_of self.new class + 1 ≡ room_of self.old class }
+        ensures less { (number : ℕ) → index ≡ number % 2 ^ 32 → named self.old number ≢ None → NamesOneLess self.old number self.new }
+    {
+        let next = self.laid.first(class);
+        self.slots[index].lay(next, words);
+        self.laid.lay(class, index as u32);
+    }
+
+    /// The class of blocks for so many words, where the pass keeps memory of it, behind the slot whose memory is given next.
+    #[inline(always)]
+    pub fn ready(&self, words: u32) -> Option<(usize, u8)>
+        ensures ready { IfSome result (λ next. (next.1 < CLASSES) × (words ≤ LARGE_MOST) × (need_of words ≡ Small next.1) × (next.0 ≡ first_of self.now next.1)
+            × ((memory : Memory) × IsReadyIn self.now next.1 memory)) }
+        ensures none { result ≡ None → (memory : Memory) → ¬ IsReady self.now (need_of words) memory }
+    {
+        let Need::Small(class) = class_of(words) else {
+            return None;
+        };
+        let first = self.laid.first(class) as usize;
+        if self.is_ready(first, class) {
+            Some((first, class))
+        } else {
+            None
+        }
+    }
+
+    /// Whether the pass keeps memory of a class, where this slot's is given next.
+    #[inline(always)]
+    fn is_ready(&self, first: usize, class: u8) -> bool
+        requires { first ≡ first_of self.now class }
+        ensures yes { result ≡ true → (memory : Memory) × IsReadyIn self.now class memory }
+        ensures no { result ≡ false → (memory : Memory) → ¬ IsReadyIn self.now class memory }
+    {
+        if first >= self.slots.len() {
+            return false;
+        }
+        let Some(kept) = self.block(first) else {
+            return false;
+        };
+        let Kept::Laid(memory) = kept else {
+            return false;
+        };
+        match memory.need() {
+            Need::Small(own) => own == class,
+            _ => false,
+        }
+    }
+
+    /// Gives memory again that the pass keeps, the next of its class, under a number.
+    #[inline(always)]
+    pub fn lift(&mut self, index: usize, class: u8) -> (u64, Memory)
+        requires packed { IsPacked self.old }
+        requires first { index ≡ first_of self.old class }
+        requires class { class < CLASSES }
+        requires ready { (memory : Memory) × IsReadyIn self.old class memory }
+        ensures packed { IsPacked self.new }
+        ensures ready { IsReadyIn self.old class result.1 }
+        ensures out { (lent : Out) × (block_of (kept.Out lent) ≡ result.1.block)
+            × HasTurned self.old.slots.items (first_of self.old class) (kept.Out lent) self.new.slots.items
+            × NamesOneMore self.old result.0 (kept.Out lent) self.new }
+        ensures next { first_of self.new class ≡ next_at self.old.slots.items (first_of self.old class) }
+        ensures further { room_of self.new class ≡ (room_of self.old class + 1) % 2 ^ 8 }
+    {
+        let memory = self.slots[index].lift();
+        let next = self.next(index);
+        self.laid.lift(class, next);
+        (self.number(index), memory)
+    }
+
+    /// The slot that a slot names.
+    #[inline(always)]
+    fn next(&self, index: usize) -> u32
+        requires { index < length self.now.slots.items }
+        ensures { result ≡ next_at self.now.slots.items index }
+    {
+        self.slots[index].next
     }
 }

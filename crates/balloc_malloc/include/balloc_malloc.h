@@ -5,9 +5,11 @@
  *   bytes are not the caller's to touch.
  * - One call at a time is made with a seat. It may go from one thread to another by a lock, by the start or the end of a
  *   thread, or by a SEQ_CST atomic.
+ * - A bundle is a variable of the caller's too, which begins as all bytes zero, and is never copied. One call at a time is
+ *   made with it, and it may go from thread to thread as a seat may: so what one thread frees comes to the seat of another.
  * - Each pointer points to an object of its type, or to `count` of them, for the call alone; no two overlap.
- * - Memory goes back once, to the seat that told it, by its first word and the size that was told with it, and nobody
- *   touches it from then on. Until then all its bytes are the caller's: nothing of the library's stands among them. Other
+ * - Memory goes back once, to the seat that told it or into a bundle, by its first word and the size that was told with it,
+ *   and nobody touches it from then on. Until then all its bytes are the caller's: nothing of the library's stands among them. Other
  *   threads may use it meanwhile, as any memory of C; what they do with it comes before it goes back, by one of the ways
  *   above.
  * - Each word of memory that is resized has been written.
@@ -35,6 +37,11 @@ typedef struct balloc_seat {
     BALLOC_MALLOC_ALIGNED unsigned char bytes[64];
 } balloc_seat;
 
+/* Memory on its way back to a seat: pieces that seats of one heap told. */
+typedef struct balloc_bundle {
+    size_t words[33];
+} balloc_bundle;
+
 /* The first word of memory: how many words of 8 bytes stand in front of it in the heap's memory. `heap` is where
  * balloc_malloc_open told that this begins. */
 #define BALLOC_MALLOC_FIRST(heap, memory) ((size_t)(((uintptr_t)(memory) - (uintptr_t)(heap)) / 8))
@@ -46,6 +53,9 @@ typedef struct balloc_seat {
 #define BALLOC_MALLOC_MOST_SEATS 16
 #define BALLOC_MALLOC_MOST_DEPTH 4096
 #define BALLOC_MALLOC_MOST_BYTES 16376
+
+/* The most pieces that a bundle has. */
+#define BALLOC_MALLOC_MOST_PIECES 32
 
 enum {
     BALLOC_MALLOC_DONE = 0,              /* the call was made */
@@ -81,6 +91,14 @@ uint32_t balloc_malloc_take(balloc_seat *seat, size_t bytes, void **memory);
 
 /* Gives memory back that this seat told, and that was not given back since: by its first word and its size. */
 void balloc_malloc_give(balloc_seat *seat, size_t first, uint32_t size);
+
+/* Puts memory into a bundle that has fewer than BALLOC_MALLOC_MOST_PIECES, by its first word and its size, from any thread:
+ * no seat is needed, and it doesn't matter who has the one that told it. Answers how many pieces the bundle has now. */
+size_t balloc_malloc_put(balloc_bundle *bundle, uint32_t first, uint32_t size);
+
+/* Takes back what a bundle has, whose pieces are memory of this seat's heap: the last one first, up to a piece that this seat
+ * hasn't told, or that it has back already. Answers how many pieces are left in the bundle: none where all is well. */
+size_t balloc_malloc_empty(balloc_seat *seat, balloc_bundle *bundle);
 
 /* Tells memory of at least `bytes` bytes, with what such memory has, as far as both go, and answers its size: this memory,
  * where it has as many; else other memory, which is told in its place, and this one has gone back. Each word of this one

@@ -1,8 +1,10 @@
 -- Calls by a seat.
-use Rattle.std.proofs.Common.{◌≡◌, ℕ, Option, Some, sym, refl, subst}
+use Rattle.std.proofs.Common.{◌≡◌, ℕ, List, Option, Some, sym, refl, subst}
 use denote.RawPtr.{Ptr}
 use Rattle.plain_words.specs.declared.plain.PlainWords.{PlainWords}
+use Rattle.balloc_malloc.specs.declared.entry.Entry.{Entry}
 use Rattle.balloc_malloc.specs.declared.tenant.Tenant.{Tenant}
+use Rattle.balloc_malloc.specs.Bundles.{EmptiesBy, IsEmptied}
 use Rattle.balloc_malloc.specs.Gives.{GivesBy, IsBack}
 use Rattle.balloc_malloc.specs.Out.{HasOut, IsLent}
 use Rattle.balloc_malloc.specs.Resizes.{Resizes, ResizesBy}
@@ -24,3 +26,6 @@ pub resizes_by :
     → Resizes before words size bytes code told p after → ResizesBy was words size bytes code told p (Some after)
 resizes_by was before after words size bytes code told p is resizes =
     subst (λ (o : Option Tenant). ResizesBy o words size bytes code told p (Some after)) (sym is) (after, refl, resizes)
+
+pub empties_by : (was : Option Tenant) (before after : Tenant) (had left : List Entry) → was ≡ Some before → IsEmptied before had after left → EmptiesBy was had (Some after) left
+empties_by was before after had left is emptied = subst (λ (o : Option Tenant). EmptiesBy o had (Some after) left) (sym is) (after, refl, emptied)

@@ -1,5 +1,7 @@
 mod Calling
+mod Emptying
 mod Firsts
+mod Kept
 mod Moving
 mod PieceSizes
 mod Seal

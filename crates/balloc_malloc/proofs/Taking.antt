@@ -1,6 +1,6 @@
 -- How memory is taken.
-use Rattle.std.proofs.Common.{◌≡◌, ◌≢◌, ℕ, ◌*◌, ◌%◌, ◌<◌, ◌≤◌, Option, Some, None, Result, Ok, Err, sym, ap, refl, ◌∙◌, subst, arith}
-use Rattle.std.specs.Prelude.{IfOk}
+use Rattle.std.proofs.Common.{◌≡◌, ◌≢◌, ℕ, ◌+◌, ◌-◌, ◌*◌, ◌%◌, ◌^◌, ◌<◌, ◌≤◌, Option, Some, None, Result, Ok, Err, sym, ap, refl, ◌∙◌, subst, arith}
+use Rattle.std.specs.Prelude.{IfOk, min}
 use Rattle.std.specs.Arc.{arc_value}
 use Rattle.std.specs.declared.alloc.AllocError.{AllocError}
 use denote.RawPtr.{Ptr, null_ptr}
@@ -10,7 +10,7 @@ use Rattle.live_heap.specs.declared.answers.AllocAnswer.{AllocAnswer}
 use Rattle.live_heap.specs.declared.answers.AllocAnswer.TheVariants.{Given, Refused, TooLarge, Spent, Busy}
 use Rattle.plain_words.specs.declared.plain.PlainWords.{PlainWords}
 use Rattle.memory_cache.specs.declared.piece.Piece.{Piece}
-use Rattle.memory_cache.specs.Paged.{CameOf, IsOut, LiesElsewhere}
+use Rattle.memory_cache.specs.Paged.{CameOf, HasNewPage, IsOut, LiesElsewhere}
 use Rattle.memory_cache.specs.Pages.{IsPiece}
 use Rattle.memory_cache.specs.Sizes.{page_words, piece_words}
 use Rattle.balloc_malloc.specs.declared.codes.TheConstants.{CAUSES}
@@ -51,8 +51,10 @@ pub is_given :
     → IsAt x.words p → IsPiece h x → x.size ≡ piece_words (words_for bytes) → words_for bytes ≤ x.size → IsOut after.cache x.first x.size → x.first % 2 ≡ 1
     → ((other : ℕ) → ¬ IsOut before.cache x.first other) → ((first other : ℕ) → IsOut before.cache first other → IsOut after.cache first other)
     → ((first other : ℕ) → IsOut after.cache first other → first ≢ x.first → IsOut before.cache first other)
-    → (HasReady before bytes → after.cache.cache ≡ before.cache.cache) → IsGiven before bytes code x.words p after
-is_given h before after bytes code x p same heap is there piece sized enough out odd fresh keeps only served = record {
+    → (HasReady before bytes → (after.cache.cache ≡ before.cache.cache) × (after.cache.hits ≡ min (before.cache.hits + 1) (2 ^ 64 - 1)))
+    → ((¬ HasReady before bytes) → HasNewPage h before.cache (words_for bytes) TRIES x.first after.cache × (after.cache.hits ≡ before.cache.hits))
+    → IsGiven before bytes code x.words p after
+is_given h before after bytes code x p same heap is there piece sized enough out odd fresh keeps only served new = record {
   lent = is_lent h after code x (same ∙ (λ i. arc_value (sym heap i))) is piece (few_of x.size (words_for bytes) sized) out;
   there = there;
   fresh = λ other has. fresh other (subst (λ (n : ℕ). IsOut before.cache n other) piece.begins has);
@@ -63,6 +65,10 @@ is_given h before after bytes code x p same heap is there piece sized enough out
   enough = omega (arith, is, enough);
   heap = heap;
   served = served;
+  new = λ none.
+      let n = new none in
+      let Of : HeapFields → ℕ → Type 0 = λ k first. HasNewPage k before.cache (words_for bytes) TRIES first after.cache in
+      (subst (λ (k : HeapFields). Of k x.words.first) same (subst (Of h) (sym piece.begins) n.0), n.1);
 }
 
 -- a cause is no size
@@ -88,8 +94,9 @@ pub is_refused :
     → words ≡ words_for bytes → bytes ≤ 8 * LARGE_MOST → code ≡ code_of told → GivesNone told → (HasReady before bytes → (x : Piece) × (told ≡ Ok (Given x)))
     → IfOk told (λ answer. CameOf h before.cache.cache.pass (page_words words) TRIES answer after.cache.cache.pass)
     → ((first size : ℕ) → IsOut before.cache first size → IsOut after.cache first size)
-    → ((first size : ℕ) → IsOut after.cache first size → LiesElsewhere told first → IsOut before.cache first size) → IsRefused before bytes code after
-is_refused h before after bytes code words told same heap for fits is none served came keeps only = record {
+    → ((first size : ℕ) → IsOut after.cache first size → LiesElsewhere told first → IsOut before.cache first size)
+    → ((¬ HasReady before bytes) → after.cache.hits ≡ before.cache.hits) → IsRefused before bytes code after
+is_refused h before after bytes code words told same heap for fits is none served came keeps only hits = record {
   fits = fits;
   none = λ ready. let s = served ready in subst GivesNone s.1 none;
   answer = told;
@@ -100,4 +107,5 @@ is_refused h before after bytes code words told same heap for fits is none serve
   keeps = keeps;
   only = λ first size has. only first size has (elsewhere told first none);
   heap = heap;
+  hits = hits (λ ready. let s = served ready in subst GivesNone s.1 none);
 }

@@ -1,5 +1,7 @@
+pub mod Bundles
 pub mod Codes
 pub mod Counts
+pub mod Entries
 pub mod Gives
 pub mod Handing
 pub mod Lent

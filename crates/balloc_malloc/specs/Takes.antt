@@ -1,12 +1,12 @@
 -- How memory is taken.
-use Rattle.std.specs.Prelude.{ℕ, ◌≡◌, ◌≢◌, ◌<◌, ◌≤◌, ◌*◌, ◌%◌, ◌⊎◌, Option, Some, None, Result, IfOk}
+use Rattle.std.specs.Prelude.{ℕ, ◌≡◌, ◌≢◌, ◌<◌, ◌≤◌, ◌+◌, ◌-◌, ◌*◌, ◌%◌, ◌^◌, ◌⊎◌, min, Option, Some, None, Result, IfOk}
 use Rattle.std.specs.declared.alloc.AllocError.{AllocError}
 use denote.RawPtr.{Ptr, null_ptr}
 use Rattle.heap_geometry.specs.declared.limits.TheConstants.{LARGE_MOST}
 use Rattle.plain_words.specs.declared.plain.PlainWords.{PlainWords}
 use Rattle.live_heap.specs.declared.answers.AllocAnswer.{AllocAnswer}
 use Rattle.memory_cache.specs.declared.piece.Piece.{Piece}
-use Rattle.memory_cache.specs.Paged.{CameOf, HasPieceReady, IsOut}
+use Rattle.memory_cache.specs.Paged.{CameOf, HasNewPage, HasPieceReady, IsOut}
 use Rattle.memory_cache.specs.Sizes.{page_words, piece_words}
 use Rattle.balloc_malloc.specs.declared.codes.TheConstants.{CAUSES, EMPTY, TOO_LARGE}
 use Rattle.balloc_malloc.specs.declared.tenant.TheConstants.{TRIES}
@@ -20,7 +20,7 @@ use Rattle.balloc_malloc.specs.Tenants.{heap_of}
 abbrev pub HasReady : Tenant → ℕ → Type 0
 HasReady tenant bytes = HasPieceReady tenant.cache (piece_words (words_for bytes))
 
--- memory of so many words, that have at least so many bytes, is C's from now on, and was not before; it is aligned to 16 bytes, since it begins at an odd word of memory that begins 8 bytes behind a multiple of 16. Of the rest C has just what it had. Where a page had a piece ready nothing was asked of the heap
+-- memory of so many words, that have at least so many bytes, is C's from now on, and was not before; it is aligned to 16 bytes, since it begins at an odd word of memory that begins 8 bytes behind a multiple of 16. Of the rest C has just what it had. Where a page had a piece ready nothing was asked of the heap, and it counts; else a page is new
 pub record IsGiven (before : Tenant) (bytes size : ℕ) (words : PlainWords) (p : Ptr) (after : Tenant) : Type 0 where
   pub lent : IsLent after words words.first size
   pub there : IsAt words p
@@ -31,7 +31,9 @@ pub record IsGiven (before : Tenant) (bytes size : ℕ) (words : PlainWords) (p 
   pub sized : size ≡ piece_words (words_for bytes)
   pub enough : bytes ≤ bytes_of size
   pub heap : after.heap ≡ before.heap
-  pub served : HasReady before bytes → after.cache.cache ≡ before.cache.cache
+  pub served : HasReady before bytes → (after.cache.cache ≡ before.cache.cache) × (after.cache.hits ≡ min (before.cache.hits + 1) (2 ^ 64 - 1))
+  pub new : (¬ HasReady before bytes)
+      → HasNewPage (heap_of before) before.cache (words_for bytes) TRIES words.first after.cache × (after.cache.hits ≡ before.cache.hits)
 
 -- no block has so many bytes: nothing happened
 pub record IsTooMuch (before : Tenant) (bytes code : ℕ) (after : Tenant) : Type 0 where
@@ -51,6 +53,7 @@ pub record IsRefused (before : Tenant) (bytes code : ℕ) (after : Tenant) : Typ
   pub keeps : (first size : ℕ) → IsOut before.cache first size → IsOut after.cache first size
   pub only : (first size : ℕ) → IsOut after.cache first size → IsOut before.cache first size
   pub heap : after.heap ≡ before.heap
+  pub hits : after.cache.hits ≡ before.cache.hits
 
 -- why no memory is given
 abbrev pub Lacks : Tenant → ℕ → ℕ → Tenant → Type 0

@@ -1,11 +1,13 @@
 //! Calls by a seat.
 
-ghost use Rattle.std.specs.Prelude.{◌≡◌};
+ghost use Rattle.std.specs.Prelude.{◌≡◌, ◌<◌};
+ghost use Rattle.balloc_malloc.specs.Bundles.{AreOfSeat, EmptiesBy, Puts, bundled};
 ghost use Rattle.balloc_malloc.specs.Gives.{GivesBy};
 ghost use Rattle.balloc_malloc.specs.Out.{HasOut};
 ghost use Rattle.balloc_malloc.specs.Resizes.{AreNumbered, ResizesBy};
 ghost use Rattle.balloc_malloc.specs.Takes.{TakesBy};
 
+use crate::bundle::Bundle;
 use crate::codes::EMPTY;
 use crate::handed::Handed;
 use crate::seat::ThreadSeat;
@@ -47,5 +49,25 @@ pub fn resize(
     match seat.tenant() {
         Some(tenant) => tenant.resize(words, first, size, bytes),
         None => Handed::none(EMPTY),
+    }
+}
+
+/// Puts memory into a bundle, by its first word and how many words it has. How many pieces that has now.
+#[inline(always)]
+pub fn put(bundle: &mut Bundle, words: PlainWords, first: u32, size: u32) -> usize
+    requires { bundle.old.count < 32 }
+    ensures { Puts bundle.old words first size result bundle.new }
+{
+    bundle.put(words, first, size);
+    bundle.count()
+}
+
+/// Takes back what a bundle has, the last first, up to a piece that isn't out.
+pub fn empty(seat: &mut ThreadSeat, bundle: &mut Bundle)
+    requires { AreOfSeat seat.old.held.tenant (bundled bundle.old) }
+    ensures { EmptiesBy seat.old.held.tenant (bundled bundle.old) seat.new.held.tenant (bundled bundle.new) }
+{
+    if let Some(tenant) = seat.tenant() {
+        tenant.empty(bundle);
     }
 }

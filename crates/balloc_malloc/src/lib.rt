@@ -5,21 +5,25 @@
 //! with how many words it has; C gives it back by its first word and as many. Nothing of ours stands in its words.
 #![tactic(auto)]
 
+mod bundle;
 mod calls;
 mod codes;
+mod entry;
 mod erased_box;
 mod handed;
 mod handing;
+mod held;
 mod opening;
 mod parts;
 mod seat;
 mod spot;
 mod tenant;
 
-ghost use Rattle.std.specs.Prelude.{ℕ, ◌≡◌, Result, Some, length};
+ghost use Rattle.std.specs.Prelude.{ℕ, ◌≡◌, ◌<◌, Result, Some, length};
 ghost use Rattle.std.specs.Borrow.{sem};
 ghost use Rattle.plain_words.specs.declared.plain.PlainWords.{PlainWords as Words};
 ghost use Rattle.plain_words.specs.declared.plain.Start.{Start};
+ghost use Rattle.balloc_malloc.specs.Bundles.{AreOfSeat, EmptiesBy, Puts, bundled};
 ghost use Rattle.balloc_malloc.specs.Counts.{TellsCounts, TellsMemory};
 ghost use Rattle.balloc_malloc.specs.Gives.{GivesBy};
 ghost use Rattle.balloc_malloc.specs.Handing.{handed, words_own};
@@ -28,7 +32,8 @@ ghost use Rattle.balloc_malloc.specs.Out.{HasOut};
 ghost use Rattle.balloc_malloc.specs.Resizes.{AreNumbered, ResizesBy};
 ghost use Rattle.balloc_malloc.specs.Takes.{TakesBy};
 
-use calls::{give, resize, take};
+use bundle::Bundle;
+use calls::{empty, give, put, resize, take};
 use codes::{DONE, EMPTY};
 use handed::Handed;
 use heap_geometry::geometry::Geometry;
@@ -97,6 +102,31 @@ pub unsafe extern "C" fn balloc_malloc_give(seat: &mut ThreadSeat, first: usize,
 {
     let words = PlainWords { mark: PhantomData };
     give(seat, words, first, size);
+}
+
+/// Puts memory that some seat of a heap gave into a bundle, by its first word and how many it has. Any thread may, whoever
+/// has that seat. How many pieces the bundle has now is the result.
+#[unsafe(no_mangle)]
+pub unsafe extern "C" fn balloc_malloc_put(bundle: &mut Bundle, first: u32, size: u32) -> usize
+    ghost words: { Words }
+    requires room { bundle.old.count < 32 }
+    requires* words { sem 𝓛 (words_own (Some words)) }
+    ensures put { Puts bundle.old words first size result bundle.new }
+{
+    let words = PlainWords { mark: PhantomData };
+    put(bundle, words, first, size)
+}
+
+/// Takes back what a bundle has of this seat's memory, the last piece first, up to one that this seat didn't give or that
+/// was given back since. How many pieces are left is the result.
+#[unsafe(no_mangle)]
+pub extern "C" fn balloc_malloc_empty(seat: &mut ThreadSeat, bundle: &mut Bundle) -> usize
+    requires home { AreOfSeat seat.old.held.tenant (bundled bundle.old) }
+    ensures emptied { EmptiesBy seat.old.held.tenant (bundled bundle.old) seat.new.held.tenant (bundled bundle.new) }
+    ensures left { result ≡ length (bundled bundle.new) }
+{
+    empty(seat, bundle);
+    bundle.count()
 }
 
 /// Memory of at least so many bytes, with what this one has, as far as both go: this one, where it has as many; else

@@ -66,7 +66,7 @@ impl ThreadSeat {
 }
 
 /// What may go to another thread.
-fn crosses<T: Send>() {}
+pub fn crosses<T: Send>() {}
 
 /// A seat may go to another thread: C may let threads take over those that others leave.
 pub fn seats_cross() {

@@ -1,9 +1,11 @@
 //! The tenant of a seat: a pass with pages of memory, and its share in the heap.
 
-ghost use Rattle.std.specs.Prelude.{◌≡◌};
+ghost use Rattle.std.specs.Prelude.{◌≡◌, IfSome, None};
 ghost use Rattle.std.specs.Arc.{arc_value};
-ghost use Rattle.memory_cache.specs.Paged.{IsPaged};
+ghost use Rattle.memory_cache.specs.Pages.{IsPiece};
+ghost use Rattle.memory_cache.specs.Paged.{IsOut, IsPaged};
 
+use crate::bundle::Bundle;
 use crate::codes::{TOO_LARGE, piece_or_cause};
 use crate::handed::Handed;
 use crate::handing::{bytes_in, copied, hand_out, send_out, words_for};
@@ -26,11 +28,16 @@ pub struct Tenant {
 }
 
 impl Tenant {
+    ghost use Rattle.std.specs.List.{AllByRecursion};
+    ghost use Rattle.balloc_malloc.specs.Bundles.{IsEmptied, IsOfHeap, bundled};
     ghost use Rattle.balloc_malloc.specs.Gives.{IsBack};
     ghost use Rattle.balloc_malloc.specs.Out.{IsLent};
     ghost use Rattle.balloc_malloc.specs.Resizes.{AreNumbered, Resizes};
+    ghost use Rattle.std.specs.Prelude.{◌≡◌, ◌≤◌, ◌*◌};
+    ghost use Rattle.heap_geometry.specs.declared.limits.TheConstants.{LARGE_MOST};
+    ghost use Rattle.balloc_malloc.specs.Sizes.{words_for};
     ghost use Rattle.balloc_malloc.specs.Takes.{Takes};
-    ghost use Rattle.balloc_malloc.specs.Tenants.{IsTended};
+    ghost use Rattle.balloc_malloc.specs.Tenants.{IsTended, heap_of};
 
     /// A tenant with this cache in front of the heap.
     pub fn new(heap: Arc<Heap, Global>, cache: PagedCache) -> Tenant
@@ -55,6 +62,19 @@ impl Tenant {
         let Some(words) = words_for(bytes) else {
             return Handed::none(TOO_LARGE);
         };
+        match self.cache.take_ready(&self.heap, words) {
+            Some(piece) => hand_out(&self.heap, piece),
+            None => self.take_anew(bytes, words),
+        }
+    }
+
+    /// The same: where a page has its last piece, or a page is cut. It stands apart, so that the way before it calls nothing.
+    #[inline(never)]
+    fn take_anew(&mut self, _bytes: usize, words: u32) -> Handed
+        requires { (words ≡ words_for _bytes) × (_bytes ≤ 8 * LARGE_MOST) × (words ≤ LARGE_MOST) }
+        ensures { Takes self.old _bytes result.code result.words result.memory self.new }
+    {
+        self.tended();
         match piece_or_cause(self.cache.take(&self.heap, words, TRIES)) {
             Ok(piece) => hand_out(&self.heap, piece),
             Err(code) => Handed::none(code),
@@ -94,6 +114,38 @@ impl Tenant {
                 hand_out(&self.heap, larger)
             }
             Err(code) => send_out(&self.heap, code, had),
+        }
+    }
+
+    /// Takes a piece back where it is out; else that comes back.
+    #[inline(always)]
+    fn take_back(&mut self, returned: Piece) -> Option<Piece>
+        requires { IsPiece (heap_of self.old) returned }
+        ensures back { result ≡ None → IsOut self.old.cache returned.first returned.size × IsBack self.old returned.first self.new }
+        ensures stays { IfSome result (λ x. (x ≡ returned) × (self.new ≡ self.old) × (¬ IsOut self.old.cache returned.first returned.size)) }
+    {
+        self.tended();
+        match self.cache.take_back(&self.heap, returned, TRIES) {
+            Ok(()) => None,
+            Err(stray) => Some(stray),
+        }
+    }
+
+    /// Takes back what a bundle has, the last first, up to a piece that isn't out.
+    pub fn empty(&mut self, bundle: &mut Bundle)
+        requires { AllByRecursion (IsOfHeap (heap_of self.old)) (bundled bundle.old) }
+        ensures { IsEmptied self.old (bundled bundle.old) self.new (bundled bundle.new) }
+    {
+        while let Some((first, size, words)) = bundle.pop() {
+            let last = Piece {
+                first: first as usize,
+                size,
+                words,
+            };
+            if let Some(last) = self.take_back(last) {
+                bundle.put(last.words, first, size);
+                return;
+            }
         }
     }
 

@@ -1,4 +1,4 @@
-//! Collections over allocators of one heap, each thread with its own, and over the C library's.
+//! Collections over allocators of one heap, each thread with its own, and over the C library's; or pieces by themselves.
 
 ghost use Rattle.std.specs.Prelude.{◌≡◌};
 ghost use Rattle.heap_geometry.specs.Geometry.{IsChecked};
@@ -6,6 +6,7 @@ ghost use Rattle.live_heap.specs.Passes.{IsFresh};
 
 use crate::command::{Collection, Command, Place};
 use crate::counts::print_line;
+use crate::pieces::in_pages;
 use heap_allocator::HeapAllocator;
 use heap_geometry::geometry::Geometry;
 use live_heap::heap::Heap;
@@ -81,7 +82,7 @@ fn rounds<A: Allocator>(alloc: &A, job: Job) -> Result<u64, AllocError> {
     let mut sum = 0u64;
     for round in 0..job.rounds {
         let found = match job.task {
-            Collection::Block => block(alloc, job.size, round)?,
+            Collection::Block | Collection::Piece => block(alloc, job.size, round)?,
             Collection::Grow => grow(alloc, job.size, round)?,
             Collection::Tree => tree(alloc, job.size, round)?,
         };
@@ -94,6 +95,9 @@ fn rounds<A: Allocator>(alloc: &A, job: Job) -> Result<u64, AllocError> {
 fn in_heap(alloc: Global, heap: &Heap, pass: Pass, job: Job) -> Result<u64, AllocError>
     requires { IsFresh heap.now pass }
 {
+    if let Collection::Piece = job.task {
+        return in_pages(alloc, heap, pass, job.size, job.rounds);
+    }
     passes_hold_exactly();
     let Ok(allocator) = HeapAllocator::new(alloc, heap, pass, DEPTH, TRIES) else {
         return Err(AllocError);

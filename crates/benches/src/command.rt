@@ -59,6 +59,8 @@ pub enum Collection {
     Grow,
     /// A map.
     Tree,
+    /// A piece of a page, by itself.
+    Piece,
 }
 
 /// Where collections lie.
@@ -121,6 +123,11 @@ fn bench_of(place: &str, mode: &str) -> Option<Bench> {
         ("cache", "words", Bench::Cache(Task::Words)),
         ("cache", "blocks", Bench::Cache(Task::Blocks)),
         ("cache", "stress", Bench::Cache(Task::Stress)),
+        (
+            "cache",
+            "pieces",
+            Bench::Collections(Place::Heap, Collection::Piece),
+        ),
         ("store", "pairs", Bench::Store),
         ("store", "turns", Bench::StoreScript(Company::ByTurns)),
         ("store", "threads", Bench::StoreScript(Company::OnThreads)),

@@ -11,7 +11,8 @@
 //! kinds on blocks that it fills and checks (`stress`); or one thread makes COUNT calls of a random script
 //! for CALLERS callers of two heaps, on the one as wholes and on the other step by step (`script`).
 //! Where it is `cache`, each thread has a cache with magazines for 64 blocks of a class in front of its pass,
-//! through which it makes the calls of `pairs`, `words`, `blocks` or `stress`. Where it is `store`, one thread
+//! through which it makes the calls of `pairs`, `words`, `blocks` or `stress`; or each of 1, 2 or 4 threads takes a piece
+//! of SEED words of a page, lays them, sums them and gives it back, COUNT times (`pieces`). Where it is `store`, one thread
 //! makes COUNT pushes, each with a pop behind it, through a store for each of the callers in turn (`pairs`);
 //! or a store of the first caller makes COUNT calls of a random script, beside plain lists, while the second
 //! caller makes steps of its own in between (`turns`) or on another thread (`threads`).
@@ -45,6 +46,7 @@ mod command;
 mod counts;
 mod heap;
 mod machine;
+mod pieces;
 mod script;
 mod store;
 mod store_script;

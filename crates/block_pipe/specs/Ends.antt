@@ -1,5 +1,5 @@
 -- The ends of a pipe.
-use Rattle.std.specs.Prelude.{ℕ, suc, ◌≡◌, ◌≢◌, ◌<◌, ◌≤◌, ◌+◌, ◌++◌, ◌⊎◌, true, List, [], ◌∷◌, All, Some, None, IfSome, length, option_to_list, slice_index}
+use Rattle.std.specs.Prelude.{ℕ, suc, ◌≡◌, ◌≢◌, ◌<◌, ◌≤◌, ◌+◌, ◌%◌, ◌++◌, ◌⊎◌, true, List, [], ◌∷◌, All, Some, None, IfSome, length, option_to_list, slice_index}
 use Rattle.crossbeam_queue.specs.Fifo.{Held}
 use Rattle.crossbeam_queue.specs.Passes.{IsPassOf, view}
 use Rattle.block_pipe.specs.declared.note.Note.{Note}
@@ -25,7 +25,7 @@ popped_by r = (view r.end).taken
 abbrev pub IsNextIn : Pipe → List Note → Note → Type 0
 IsNextIn pipe before note = MayComeNext pipe.senders pipe.shelves before note
 
--- the sender is one of this pipe's; its pending note may come next behind those that it has pushed
+-- the sender is one of this pipe's; its next shelf is the one whose turn it is, and its pending note may come next behind those that it has pushed
 pub record IsSender (pipe : Pipe) (s : Sender) : Type 0 where
   pub of : IsPassOf pipe.queue s.end
   pub has : s.number < pipe.senders
@@ -35,6 +35,8 @@ pub record IsSender (pipe : Pipe) (s : Sender) : Type 0 where
   pub from : (view s.end).from ≡ s.number
   pub until : (view s.end).until ≡ s.number + 1
   pub count : s.sent ≡ length (pushed_by s)
+  pub turn : s.turn ≡ s.sent % pipe.shelves
+  pub within : s.turn < pipe.shelves
   pub next : IfSome s.pending (λ note. (note.sender ≡ s.number) × IsNextIn pipe (view s.end).sent note)
 
 -- the receiver is this pipe's; a note that it keeps is the last one that it has popped

@@ -37,6 +37,7 @@ impl Pipe {
                 end: theirs,
                 number,
                 sent: 0,
+                turn: 0,
                 pending: None,
             });
         }

@@ -1,5 +1,7 @@
 //! A sender's end.
 
+ghost use Rattle.std.specs.Prelude.{ℕ, ◌≡◌, ◌<◌, ◌+◌, ◌%◌};
+
 use crate::note::Note;
 use crate::pipe::Pipe;
 use crate::rule::{End, Sends};
@@ -11,11 +13,23 @@ pub struct Sender {
     pub(crate) end: End,
     pub(crate) number: u8,
     pub(crate) sent: u64,
+    /// Which of its shelves has the next block, counted from 0.
+    pub(crate) turn: u8,
     pub(crate) pending: Option<Note>,
 }
 
+/// The turn behind this one: each shelf has one, and then the first has it again.
+fn next_turn(turn: u8, shelves: u8) -> u8
+    requires { turn < shelves }
+    ensures next { (sent : ℕ) → turn ≡ sent % shelves → result ≡ (sent + 1) % shelves }
+    ensures within { result < shelves }
+{
+    let next = turn + 1;
+    if next < shelves { next } else { 0 }
+}
+
 impl Sender {
-    ghost use Rattle.std.specs.Prelude.{ℕ, ◌≡◌, ◌≢◌, ◌<◌, ◌*◌, ◌^◌, ◌++◌, ◌↔◌, true, false, Some, None, IsSome, IsTrue, length};
+    ghost use Rattle.std.specs.Prelude.{◌≢◌, ◌*◌, ◌^◌, ◌++◌, ◌↔◌, true, false, Some, None, IsSome, IsTrue, length};
     ghost use Rattle.crossbeam_queue.specs.Passes.{view};
     ghost use Rattle.block_pipe.specs.declared.pipe.Pipe.{Pipe};
     ghost use Rattle.block_pipe.specs.Ends.{HasHeld, IsSender, pending_of, pushed_by};
@@ -42,19 +56,20 @@ impl Sender {
         ensures value { result ≡ shelf_for pipe.now.shelves self.now.number self.now.sent }
         ensures within { result < 64 }
     {
-        self.number * pipe.shelves + (self.sent % u64::from(pipe.shelves)) as u8
+        self.number * pipe.shelves + self.turn
     }
 
-    /// Its next block stands on its shelf: the note of that is pending now.
-    pub(crate) fn tell(&mut self, pipe: &Pipe, place: u32)
-        requires of { IsSender pipe.now self.old }
+    /// Its next block stands on this shelf, the next one: the note of that is pending now.
+    pub(crate) fn tell(&mut self, _pipe: &Pipe, shelf: u8, place: u32)
+        requires of { IsSender _pipe.now self.old }
+        requires shelf { shelf ≡ shelf_for _pipe.now.shelves self.old.number self.old.sent }
         requires none { self.old.pending ≡ None }
         requires few { self.old.sent < 2 ^ 60 }
-        ensures of { IsSender pipe.now self.new }
+        ensures of { IsSender _pipe.now self.new }
         ensures pending { self.new.pending ≡ Some (record {
           sender = self.old.number;
           seq = self.old.sent;
-          shelf = shelf_for pipe.now.shelves self.old.number self.old.sent;
+          shelf = shelf_for _pipe.now.shelves self.old.number self.old.sent;
           place = place;
         }) }
         ensures same { (self.new.end ≡ self.old.end) × (self.new.number ≡ self.old.number) × (self.new.sent ≡ self.old.sent) }
@@ -62,7 +77,7 @@ impl Sender {
         self.pending = Some(Note {
             sender: self.number,
             seq: self.sent,
-            shelf: self.shelf(pipe),
+            shelf,
             place,
         });
     }
@@ -83,6 +98,7 @@ impl Sender {
             Ok(()) => {
                 self.pending = None;
                 self.sent += 1;
+                self.turn = next_turn(self.turn, pipe.shelves);
                 true
             }
             Err(_) => false,

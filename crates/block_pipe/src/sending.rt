@@ -55,7 +55,7 @@ impl Sender {
         match heap.put(pass, block, shelf) {
             Err(Full { block, found }) => Sent::ShelfFull { block, found },
             Ok(()) => {
-                self.tell(pipe, place);
+                self.tell(pipe, shelf, place);
                 if self.flush(rt, pipe) {
                     Sent::Sent
                 } else {

@@ -25,6 +25,7 @@ pub(crate) struct Desk {
 
 impl Desk {
     /// A piece of at least so many words, which was not out and is now.
+    #[inline(always)]
     pub(crate) fn take(&mut self, heap: &Heap, words: u32) -> Option<Piece>
         requires desk { IsDesk heap.now self.old }
         requires words { words ≤ LARGE_MOST }
@@ -51,7 +52,30 @@ impl Desk {
         }
     }
 
+    /// What `take` gives of a page that is ready with two pieces or more.
+    #[inline(always)]
+    pub(crate) fn take_ready(&mut self, heap: &Heap, words: u32) -> Option<Piece>
+        requires desk { IsDesk heap.now self.old }
+        requires words { words ≤ LARGE_MOST }
+        ensures desk { IsDesk heap.now self.new }
+        ensures caller { (caller : ℕ) → IsCallers caller self.old → IsCallers caller self.new }
+        ensures given { IfSome result (λ piece. IsPiece heap.now piece × (words ≤ piece.size) × (piece.size ≡ piece_words words)) }
+        ensures aligned { IfSome result (λ piece. piece.first % 2 ≡ 1) }
+        ensures within { IfSome result (λ piece. piece.first < 2 ^ 33) }
+        ensures fresh { IfSome result (λ piece. (size : ℕ) → ¬ IsOutOf self.old piece.first size) }
+        ensures out { IfSome result (λ piece. IsOutOf self.new piece.first piece.size) }
+        ensures keeps { IfSome result (λ _. (first size : ℕ) → IsOutOf self.old first size → IsOutOf self.new first size) }
+        ensures only { IfSome result (λ piece. (first size : ℕ) → IsOutOf self.new first size → first ≢ piece.first → IsOutOf self.old first size) }
+        ensures none { result ≡ None → self.new ≡ self.old }
+    {
+        match &mut self.cache {
+            Some(cache) => cache.take_ready(heap, words),
+            None => None,
+        }
+    }
+
     /// Takes a piece back. The words of one that isn't out stay out for ever.
+    #[inline(always)]
     pub(crate) fn give(&mut self, heap: &Heap, piece: Piece)
         requires desk { IsDesk heap.now self.old }
         requires piece { IsPiece heap.now piece }
@@ -63,9 +87,7 @@ impl Desk {
         ensures stray { (¬ IsOutOf self.old piece.first piece.size) → self.new ≡ self.old }
     {
         if let Some(cache) = &mut self.cache {
-            if cache.is_out(piece.first, piece.size) {
-                cache.give(heap, piece, self.tries);
-            }
+            let _ = cache.take_back(heap, piece, self.tries);
         }
     }
 

@@ -5,15 +5,18 @@ ghost use Rattle.plain_words.specs.Places.{AllHere};
 ghost use Rattle.memory_cache.specs.Pages.{IsPiece};
 ghost use Rattle.memory_cache.specs.Sizes.{piece_words};
 ghost use Rattle.heap_allocator.specs.declared.mover.TheConstants.{MOST_BYTES};
+ghost use Rattle.heap_allocator.specs.Desks.{IsDeskOf};
 ghost use Rattle.heap_allocator.specs.Pieces.{AreOfOnePiece, IsPieceFor, piece_token, words_for, words_of};
 ghost use Rattle.heap_allocator.specs.Served.{IsServed};
 
+use crate::desk::Desk;
 use crate::piece::Piece;
 use crate::slot::Slot;
 use live_heap::heap::Heap;
 use memory_cache::piece::Piece as PagePiece;
 use memory_cache::sizes::piece_words;
 use std::alloc::{AllocError, Allocator};
+use std::mem::forget;
 
 /// The most bytes that the largest block serves, before a label.
 pub(crate) const MOST_BYTES: usize = 8 * 131_070;
@@ -34,9 +37,35 @@ impl<'h> Mover<'h> {
             return None;
         }
         let mut desk = self.slot.replace(None)?;
-        let taken = desk.take(self.heap, words_of(size) as u32 + 1);
-        self.slot.replace(Some(desk));
+        let words = words_of(size) as u32 + 1;
+        match desk.take_ready(self.heap, words) {
+            Some(taken) => {
+                self.put(desk);
+                Some(piece_of(self.heap, taken, size))
+            }
+            None => self.take_anew(desk, words, size),
+        }
+    }
+
+    /// The same: where a page has its last piece, or a page is cut. It stands apart, so that the way before it calls nothing.
+    #[inline(never)]
+    fn take_anew(&self, mut desk: Box<Desk>, words: u32, size: usize) -> Option<Piece>
+        requires desk { IsDeskOf self.now.slot desk.value }
+        requires words { words ≡ words_for size }
+        requires size { size ≤ MOST_BYTES }
+        ensures { IfSome result (λ p. IsServed self.now.heap.now.region.at p × (p.size ≡ size) × (p.first % 2 ≡ 1)) }
+    {
+        let taken = desk.take(self.heap, words);
+        self.put(desk);
         Some(piece_of(self.heap, taken?, size))
+    }
+
+    /// Puts the desk into its cell again, which was empty meanwhile: so there is nothing to drop.
+    #[inline(always)]
+    fn put(&self, desk: Box<Desk>)
+        requires { IsDeskOf self.now.slot desk.value }
+    {
+        forget(self.slot.replace(Some(desk)));
     }
 
     /// Takes a piece of so many bytes back.
@@ -49,7 +78,7 @@ impl<'h> Mover<'h> {
         if let Some(taken) = taken_of(piece, size) {
             desk.give(self.heap, taken);
         }
-        self.slot.replace(Some(desk));
+        self.put(desk);
     }
 
     /// The cell of its desk.

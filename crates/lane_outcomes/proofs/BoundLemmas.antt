@@ -10,16 +10,16 @@ use Rattle.heap_geometry.specs.declared.need.Need.TheVariants.{Small, Large, Too
 use Rattle.heap_geometry.specs.Need.{need_of}
 use Rattle.pool_model.specs.declared.event.Event.{Event}
 use Rattle.trace_text.specs.declared.trace.Op.{Op}
-use Rattle.trace_text.specs.declared.trace.Op.TheVariants as op
 use Rattle.lane_outcomes.specs.declared.registers.HeldBlock.{HeldBlock}
 use Rattle.lane_outcomes.specs.declared.outcome.Outcome.{Outcome}
-use Rattle.lane_outcomes.specs.declared.outcome.Outcome.TheVariants as outcome
 use Rattle.lane_outcomes.specs.Lane.{held_in}
-use Rattle.lane_outcomes.specs.LaneCounts.{as_one, count_with, lane_given, lanes_given, words_given}
+use Rattle.lane_outcomes.specs.LaneCounts.{as_one, count_with, lane_given, lanes_given}
 use Rattle.lane_outcomes.specs.Rows.{Setting}
-use Rattle.lane_outcomes.specs.Cached.{CachedFits, CachedLanesFit, CachedPosition, CachedWalks, cached_after, cached_start, hit_of, magazines_after, served_for}
+use Rattle.lane_outcomes.specs.Cached.{CachedFits, CachedLanesFit, CachedPosition, CachedWalks, cached_after, cached_start, hit_of, magazines_by, served_with}
 use Rattle.lane_outcomes.specs.Magazines.{empty_magazines, given_from, is_kept, kept_with, magazine_of, magazines_freed, magazines_given, others_in, served_by}
 use Rattle.lane_outcomes.proofs.RoomLemmas.{none-in}
+use Rattle.lane_outcomes.specs.Deeds.{Deed, deed_of, given_by, register_of}
+use Rattle.lane_outcomes.specs.Deeds as deed
 
 -- no magazine has more blocks than the depth
 abbrev IsShallow : ℕ → List (List ℕ) → Type 0
@@ -70,15 +70,15 @@ shallow-freed depth magazines (Some held) shallow =
     shallow-kept depth (is_kept depth magazines held.need) magazines held.place held.need refl shallow
 
 shallow-after :
-    (depth : ℕ) (magazines : List (List ℕ)) (registers : List (Option HeldBlock)) (operation : Op) (result : Outcome) → IsShallow depth magazines
-    → IsShallow depth (magazines_after depth magazines registers operation result)
-shallow-after depth magazines registers (op.Alloc r need v) (outcome.Given words place) shallow =
+    (depth : ℕ) (magazines : List (List ℕ)) (held : Option HeldBlock) (done : Deed) → IsShallow depth magazines
+    → IsShallow depth (magazines_by depth magazines held done)
+shallow-after depth magazines held (deed.gives need v words place) shallow =
     shallow-given depth (served_by magazines (need_of need)) magazines (need_of need) shallow
-shallow-after depth magazines registers (op.Free r) outcome.Freed shallow = shallow-freed depth magazines (held_in registers r) shallow
-shallow-after depth magazines registers (op.Resize r need) (outcome.Resized words place) shallow =
-    shallow-freed depth (magazines_given magazines (need_of need)) (held_in registers r)
+shallow-after depth magazines held deed.frees shallow = shallow-freed depth magazines held shallow
+shallow-after depth magazines held (deed.replaces need words place) shallow =
+    shallow-freed depth (magazines_given magazines (need_of need)) held
     (shallow-given depth (served_by magazines (need_of need)) magazines (need_of need) shallow)
-shallow-after depth magazines registers operation result shallow = shallow
+shallow-after depth magazines held done shallow = shallow
 
 shallow-walk :
     (setting : Setting) (depth : ℕ) (from to : CachedPosition) (operations : List Op) (results : List Outcome)
@@ -86,7 +86,7 @@ shallow-walk :
 shallow-walk setting depth from to [] [] walks shallow = rw walks shallow
 shallow-walk setting depth from to (operation ∷ operations) (result ∷ results) walks shallow =
     shallow-walk setting depth (cached_after depth from operation result walks.0) to operations results walks.2
-    (shallow-after depth from.magazines from.base.registers operation result shallow)
+    (shallow-after depth from.magazines (held_in from.base.registers (register_of operation)) (deed_of operation result) shallow)
 shallow-walk setting depth from to operations results walks shallow = absurd walks
 
 pub walk-shallow :
@@ -102,10 +102,10 @@ hit-one None = omega arith
 hit-one (Some place) = omega arith
 
 -- each hit is one of the blocks that were given
-hit-given : (magazines : List (List ℕ)) (operation : Op) (result : Outcome) → hit_of (served_for magazines operation result) ≤ count_with as_one (words_given operation result)
-hit-given magazines (op.Alloc r need v) (outcome.Given words place) = hit-one (served_by magazines (need_of need))
-hit-given magazines (op.Resize r need) (outcome.Resized words place) = hit-one (served_by magazines (need_of need))
-hit-given magazines operation result = omega arith
+hit-given : (magazines : List (List ℕ)) (done : Deed) → hit_of (served_with magazines done) ≤ count_with as_one (given_by done)
+hit-given magazines (deed.gives need v words place) = hit-one (served_by magazines (need_of need))
+hit-given magazines (deed.replaces need words place) = hit-one (served_by magazines (need_of need))
+hit-given magazines done = omega arith
 
 hits-walk :
     (setting : Setting) (depth : ℕ) (from to : CachedPosition) (operations : List Op) (results : List Outcome)
@@ -114,7 +114,7 @@ hits-walk setting depth from to [] [] walks = omega (arith, ap (λ (p : CachedPo
 hits-walk setting depth from to (operation ∷ operations) (result ∷ results) walks =
     omega (
       arith,
-      hit-given from.magazines operation result,
+      hit-given from.magazines (deed_of operation result),
       hits-walk setting depth (cached_after depth from operation result walks.0) to operations results walks.2,
     )
 hits-walk setting depth from to operations results walks = absurd walks

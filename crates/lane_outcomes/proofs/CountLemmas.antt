@@ -13,11 +13,9 @@ use Rattle.pool_model.specs.Pool.{pool_of}
 use Rattle.pool_model.proofs.NeedOfLemmas.{need_of-within}
 use Rattle.trace_text.specs.declared.limits.TheConstants.{MAX_LANES, REGISTERS}
 use Rattle.trace_text.specs.declared.trace.Op.{Op}
-use Rattle.trace_text.specs.declared.trace.Op.TheVariants as op
 use Rattle.lane_outcomes.specs.declared.outcome.Outcome.{Outcome}
-use Rattle.lane_outcomes.specs.declared.outcome.Outcome.TheVariants as outcome
-use Rattle.lane_outcomes.specs.Cached.{CachedFits, CachedLanesFit, CachedOutcomesFit, CachedPosition, CachedRow, CachedWalks, cached_after, cached_start}
-use Rattle.lane_outcomes.specs.LaneCounts.{AreHeld, as_one, as_words, count_with, lane_freed, lane_given, lanes_freed, lanes_given, words_given}
+use Rattle.lane_outcomes.specs.Cached.{CachedFits, CachedLanesFit, CachedOutcomesFit, CachedPosition, CachedWalks, cached_after, cached_start}
+use Rattle.lane_outcomes.specs.LaneCounts.{AreHeld, as_one, as_words, count_with, lane_freed, lane_given, lanes_freed, lanes_given}
 use Rattle.lane_outcomes.specs.Magazines.{kept_from}
 use Rattle.lane_outcomes.specs.Rows.{Setting}
 use Rattle.lane_outcomes.specs.Standing.{setting_in}
@@ -26,6 +24,9 @@ use Rattle.lane_outcomes.proofs.KeepingLemmas.{amount, keeps-emptied}
 use Rattle.lane_outcomes.proofs.KeptLemmas.{kept-emptied}
 use Rattle.lane_outcomes.proofs.MeasureLemmas.{free_at, give_at, measure, measured}
 use Rattle.lane_outcomes.proofs.TallyLemmas.{of_caller, partition, sum_from, tally}
+use Rattle.lane_outcomes.proofs.SlotRows.{Adds, row-adds}
+use Rattle.lane_outcomes.specs.Deeds.{Deed, deed_of, given_by, register_of}
+use Rattle.lane_outcomes.specs.Deeds as deed
 
 -- no block has more words than a large one may have
 words-bound : (n : Need) → IsNeed n → usable_words n ≤ LARGE_MOST
@@ -75,13 +76,12 @@ lane-balance f g setting depth operations results hits legal fits =
     omega (arith, ended.given_is, ended.freed_is, emptied.balance setting.history whole all, none)
 
 -- each operation is given at most one block, of a need
-cached-few-row :
-    (f : ℕ → ℕ) (setting : Setting) (depth : ℕ) (position : CachedPosition) (operation : Op) (result : Outcome) (piece : List Event) → IsFew f
-    → CachedRow setting depth position operation result piece → count_with f (words_given operation result) ≤ LARGE_MOST
-cached-few-row f setting depth position (op.Alloc r need v) (outcome.Given words place) piece few row = subst (λ n. f n ≤ LARGE_MOST) (sym row.1) (few need)
-cached-few-row f setting depth position (op.Resize r need) (outcome.Resized words place) piece few row =
-    subst (λ n. f n ≤ LARGE_MOST) (sym row.3) (few need)
-cached-few-row f setting depth position operation result piece few row = omega arith
+few-by :
+    (f : ℕ → ℕ) (setting : Setting) (depth : ℕ) (position : CachedPosition) (r : ℕ) (done : Deed) (piece : List Event) → IsFew f
+    → Adds setting depth position r done piece → count_with f (given_by done) ≤ LARGE_MOST
+few-by f setting depth position r (deed.gives need v words place) piece few row = subst (λ n. f n ≤ LARGE_MOST) (sym row.1) (few need)
+few-by f setting depth position r (deed.replaces need words place) piece few row = subst (λ n. f n ≤ LARGE_MOST) (sym row.3) (few need)
+few-by f setting depth position r done piece few row = omega arith
 
 cached-few-lane :
     (f : ℕ → ℕ) (setting : Setting) (depth : ℕ) (from to : CachedPosition) (operations : List Op) (results : List Outcome) → IsFew f
@@ -90,7 +90,7 @@ cached-few-lane f setting depth from to [] [] few walks = omega arith
 cached-few-lane f setting depth from to (operation ∷ operations) (result ∷ results) few walks =
     omega (
       arith,
-      cached-few-row f setting depth from operation result walks.0 few walks.1,
+      few-by f setting depth from (register_of operation) (deed_of operation result) walks.0 few (row-adds setting depth from operation result walks.0 walks.1),
       cached-few-lane f setting depth (cached_after depth from operation result walks.0) to operations results few walks.2,
     )
 cached-few-lane f setting depth from to operations results few walks = absurd walks

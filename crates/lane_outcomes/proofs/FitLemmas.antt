@@ -7,10 +7,10 @@ use Rattle.trace_text.specs.declared.trace.Op.TheVariants as op
 use Rattle.lane_outcomes.specs.declared.registers.HeldBlock.{HeldBlock}
 use Rattle.lane_outcomes.specs.declared.outcome.Outcome.{Outcome}
 use Rattle.lane_outcomes.specs.declared.outcome.Outcome.TheVariants as outcome
-use Rattle.lane_outcomes.specs.Lane.{Position, position_after}
-use Rattle.lane_outcomes.specs.Rows.{Setting, Moment, FitsRow, IsCopy, IsSpent}
-use Rattle.lane_outcomes.proofs.SlotRows.{RowAt, at-row, row-at, slot_of}
+use Rattle.lane_outcomes.specs.Lane.{Position, held_in, position_after}
+use Rattle.lane_outcomes.specs.Rows.{FitsRow, IsCopy, IsSpent, Moment, RowAt, Setting}
 use Rattle.lane_outcomes.specs.Fits.{Walks}
+use Rattle.lane_outcomes.specs.Deeds.{register_of}
 
 -- the setting with a longer history, and more exchanges lost
 abbrev pub later : Setting → List Event → ℕ → Setting
@@ -66,9 +66,8 @@ pub row-later :
     (setting : Setting) (rest : List Event) (lost : ℕ) → setting.lost ≤ lost
     → (position : Position) (operation : Op) (result : Outcome) (piece : List Event)
     → FitsRow setting position operation result piece → FitsRow (later setting rest lost) position operation result piece
-row-later setting rest lost more position operation result piece row =
-    at-row (later setting rest lost) position operation result piece
-    (later-at setting rest lost more position operation (slot_of position.registers operation) result piece (row-at setting position operation result piece row))
+row-later setting rest lost more position operation result piece =
+    later-at setting rest lost more position operation (held_in position.registers (register_of operation)) result piece
 
 -- a walk in a setting is one in a setting with a longer history and more exchanges lost
 pub walks-later :

@@ -264,32 +264,3 @@ holds-taken history caller r shelf place block registers shelved live h =
           (owns-handed (pool_of history) caller held place (Caller caller) differ owns),
     ))
     h.once
-
--- the caller's blocks are still its own after an allocation
-pub holds-beside :
-    (g : Geometry) (history : List Event) (caller need place : ℕ) (registers : List (Option HeldBlock))
-    → IsLegalWithoutCounts g (history ++ Alloc caller need place ∷ []) → HoldsOwn (pool_of history) caller registers
-    → HoldsOwn (pool_of (history ++ Alloc caller need place ∷ [])) caller registers
-holds-beside g history caller need place registers legal h =
-    holds-still (pool_of history) (pool_of (history ++ Alloc caller need place ∷ [])) caller registers
-    (λ held owns.
-    owns-past history caller held caller need place (fresh-differs g history caller need place held.place owns.block legal owns.live) owns)
-    h
-
--- a block with another need than the one that a register holds lies elsewhere, and so do those of the other registers
-pub held-apart :
-    (pool : Pool) (caller r : ℕ) (new held : HeldBlock) (registers : List (Option HeldBlock)) → held_in registers r ≡ Some held → new.need ≢ held.need
-    → HoldsOwn pool caller registers → HoldsOwn pool caller (slice_set registers r (Some new))
-    → (q : ℕ) (other : HeldBlock) → held_in (slice_set registers r (Some new)) q ≡ Some other → other.place ≢ held.place
-held-apart pool caller r new held registers full differ old now q other there =
-    elim (held-set registers r q (Some new) (held-inside registers r held full)) [
-      | inl here ↦
-          let same : new ≡ other = let e : Some new ≡ Some other = sym here.1 ∙ there in cc in
-          let owns : OwnsHeld pool caller other = now.owned q other there in
-          let kept : OwnsHeld pool caller held = old.owned r held full in
-          λ e.
-          let blocks : owns.block ≡ kept.block =
-          let both : Some owns.block ≡ Some kept.block = sym owns.live ∙ ap (λ (p : ℕ). block_at p pool) e ∙ kept.live in cc in
-          differ (ap (λ (h : HeldBlock). h.need) same ∙ owns.need_is ∙ ap (λ (b : Block). b.need) blocks ∙ sym kept.need_is)
-      | inr past ↦ λ e. old.once r q held other full (sym past.1 ∙ there) (λ s. past.0 (sym s)) (sym e)
-    ]

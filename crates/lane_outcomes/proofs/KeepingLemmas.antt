@@ -6,9 +6,10 @@ use Rattle.std.proofs.lemmas.List.Sorted.{IsPermutation-append_right, IsPermutat
 use Rattle.std.proofs.lemmas.List.Sums.{sum_by-cons}
 use Rattle.heap_geometry.specs.declared.geometry.Geometry.{Geometry}
 use Rattle.heap_geometry.specs.declared.limits.TheConstants.{CLASSES}
+use Rattle.heap_geometry.specs.declared.need.Need.{Need}
 use Rattle.heap_geometry.specs.Need.{IsNeed, need_of, usable_words}
 use Rattle.pool_model.specs.declared.event.Event.{Event}
-use Rattle.pool_model.specs.declared.event.Event.TheVariants.{Free}
+use Rattle.pool_model.specs.declared.event.Event.TheVariants.{Free, Put}
 use Rattle.pool_model.specs.Histories.{own, Begins}
 use Rattle.pool_model.specs.Pool.{Pool, pool_of}
 use Rattle.pool_model.specs.Legal.{IsLegalEventWithoutCounts, IsLegalWithoutCounts}
@@ -18,16 +19,17 @@ use Rattle.pool_model.proofs.PoolLemmas.{every-found}
 use Rattle.pool_model.proofs.WellFormedLemmas.{sound-of}
 use Rattle.lane_outcomes.specs.declared.registers.HeldBlock.{HeldBlock}
 use Rattle.lane_outcomes.specs.Lane.{Position, held_in, writing}
-use Rattle.lane_outcomes.specs.Rows.{Setting}
+use Rattle.lane_outcomes.specs.Rows.{Setting, TakeRow}
 use Rattle.lane_outcomes.specs.Standing.{OwnsHeld, HoldsOwn}
 use Rattle.lane_outcomes.proofs.FollowLemmas.{FollowsAt, IsStill, at-step, at-stills, cut-last}
 use Rattle.lane_outcomes.proofs.HoldLemmas.{holds-freed}
 use Rattle.lane_outcomes.proofs.MeasureLemmas.{block_with}
-use Rattle.lane_outcomes.proofs.WalkLemmas.{IsGiven, given-after, given-of, stills-writing}
+use Rattle.lane_outcomes.proofs.WalkLemmas.{IsGiven, given-after, given-of, laid-after, stills-writing, taken-after}
 use Rattle.lane_outcomes.specs.Cached.{CachedPosition, IsGivenBy}
 use Rattle.lane_outcomes.specs.Magazines.{freeing, given_from, is_kept, kept_from, kept_with, magazines_given, served_by}
 use Rattle.lane_outcomes.proofs.KeptLemmas.{block_for, freeing_all, kept-freed, kept-given}
-use Rattle.lane_outcomes.proofs.SlotLemmas.{holds-lifted, holds-reordered, holds-rest, holds-served, slot-set, slots}
+use Rattle.lane_outcomes.proofs.SlotLemmas.{holds-lifted, holds-reordered, holds-rest, holds-served, slot-held, slot-set, slots}
+use Rattle.lane_outcomes.specs.declared.outcome.Outcome.TheVariants as outcome
 
 -- what blocks count, where one of so many words counts as `f` says
 abbrev pub amount : (ℕ → ℕ) → List HeldBlock → ℕ
@@ -129,14 +131,41 @@ pub keeps-given :
     → KeepsAt f setting.history setting.caller (done ++ piece) kept
     (set registers r (Some (record { place = place; words = words; need = need_of need }))) (got + f words) gone
 keeps-given f g setting done r need words place value calls piece kept registers got gone legal words_are given piece_is keeps =
-    let wide : Position = record { registers = slots kept registers; done = done; answered = 0; spent = false } in
     let new : HeldBlock = record { place = place; words = words; need = need_of need } in
     keeps-on f setting.history setting.caller done piece kept kept registers (set registers r (Some new)) got gone (got + f words) gone
     (keeps.given + f words) (keeps.freed + 0) keeps
     (subst (λ after. FollowsAt f setting.history setting.caller (done ++ piece) after (keeps.given + f words) (keeps.freed + 0))
     (slot-set kept registers r (Some new))
-    (given-after f g setting wide (length kept + r) need words place value calls piece keeps.given keeps.freed legal words_are given piece_is keeps.at))
+    (given-after f g setting done (slots kept registers) (length kept + r) need words place value calls piece keeps.given keeps.freed legal words_are given piece_is
+    keeps.at))
     (λ balance. omega (arith, balance))
+
+-- a register's block is laid on a shelf, and one is taken from there
+pub keeps-laid :
+    (f : ℕ → ℕ) (g : Geometry) (setting : Setting) (done : List Event) (r shelf : ℕ) (held : HeldBlock) (kept : List HeldBlock)
+    (registers : List (Option HeldBlock)) (got gone : ℕ) → IsLegalWithoutCounts g setting.history → held_in registers r ≡ Some held
+    → KeepsAt f setting.history setting.caller done kept registers got gone
+    → KeepsAt f setting.history setting.caller (done ++ Put setting.caller held.place shelf ∷ []) kept (set registers r None) got gone
+keeps-laid f g setting done r shelf held kept registers got gone legal full keeps =
+    let event = Put setting.caller held.place shelf in
+    keeps-on f setting.history setting.caller done (event ∷ []) kept kept registers (set registers r None) got gone got gone keeps.given keeps.freed keeps
+    (subst (λ after. FollowsAt f setting.history setting.caller (done ++ event ∷ []) after keeps.given keeps.freed) (slot-set kept registers r None)
+    (laid-after f g setting done (slots kept registers) (length kept + r) shelf held keeps.given keeps.freed legal (slot-held kept registers r ∙ full) keeps.at))
+    (λ balance. balance)
+
+pub keeps-taken :
+    (f : ℕ → ℕ) (g : Geometry) (setting : Setting) (position : Position) (r shelf words place : ℕ) (need : Need) (kept : List HeldBlock)
+    (registers : List (Option HeldBlock)) (piece : List Event) (got gone : ℕ) → IsLegalWithoutCounts g setting.history
+    → TakeRow setting position shelf None (outcome.Took words place need) piece
+    → KeepsAt f setting.history setting.caller position.done kept registers got gone
+    → KeepsAt f setting.history setting.caller (position.done ++ piece) kept
+    (set registers r (Some (record { place = place; words = words; need = need }))) got gone
+keeps-taken f g setting position r shelf words place need kept registers piece got gone legal row keeps =
+    let new : Option HeldBlock = Some (record { place = place; words = words; need = need }) in
+    keeps-on f setting.history setting.caller position.done piece kept kept registers (set registers r new) got gone got gone keeps.given keeps.freed keeps
+    (subst (λ after. FollowsAt f setting.history setting.caller (position.done ++ piece) after keeps.given keeps.freed) (slot-set kept registers r new)
+    (taken-after f g setting position (slots kept registers) (length kept + r) shelf words place need piece keeps.given keeps.freed legal row keeps.at))
+    (λ balance. balance)
 
 -- the first of the blocks that are kept is freed
 pub keeps-freed :

@@ -12,14 +12,11 @@ use Rattle.heap_geometry.specs.declared.need.Need.TheVariants.{Small, Large, Too
 use Rattle.heap_geometry.specs.Need.{IsNeed, need_of, usable_words}
 use Rattle.pool_model.specs.declared.event.Event.{Event}
 use Rattle.pool_model.specs.declared.event.Event.TheVariants.{Free}
-use Rattle.trace_text.specs.declared.trace.Op.{Op}
-use Rattle.trace_text.specs.declared.trace.Op.TheVariants as op
 use Rattle.lane_outcomes.specs.declared.registers.HeldBlock.{HeldBlock}
-use Rattle.lane_outcomes.specs.declared.outcome.Outcome.{Outcome}
-use Rattle.lane_outcomes.specs.declared.outcome.Outcome.TheVariants as outcome
-use Rattle.lane_outcomes.specs.Lane.{held_in}
-use Rattle.lane_outcomes.specs.Cached.{magazines_after}
 use Rattle.lane_outcomes.specs.Magazines.{emptying, given_from, is_kept, kept_block, kept_from, kept_with, last_in, magazine_of, magazines_freed, magazines_given, others_in, served_by}
+use Rattle.lane_outcomes.specs.Deeds.{Deed}
+use Rattle.lane_outcomes.specs.Cached.{magazines_by}
+use Rattle.lane_outcomes.specs.Deeds as deed
 
 -- a block more in the magazine of a class is one more that is kept, classes being numbered from `first` on
 kept-pushed-from :
@@ -106,15 +103,12 @@ freed-long : (depth : ℕ) (magazines : List (List ℕ)) (held : Option HeldBloc
 freed-long depth magazines None = refl
 freed-long depth magazines (Some held) = kept-long (is_kept depth magazines held.need) magazines held.place held.need
 
-pub magazines-long :
-    (depth : ℕ) (magazines : List (List ℕ)) (registers : List (Option HeldBlock)) (operation : Op) (result : Outcome)
-    → length (magazines_after depth magazines registers operation result) ≡ length magazines
-magazines-long depth magazines registers (op.Alloc r need v) (outcome.Given words place) = given-long (served_by magazines (need_of need)) magazines (need_of need)
-magazines-long depth magazines registers (op.Free r) outcome.Freed = freed-long depth magazines (held_in registers r)
-magazines-long depth magazines registers (op.Resize r need) (outcome.Resized words place) =
-    freed-long depth (magazines_given magazines (need_of need)) (held_in registers r)
-    ∙ given-long (served_by magazines (need_of need)) magazines (need_of need)
-magazines-long depth magazines registers operation result = refl
+pub magazines-long : (depth : ℕ) (magazines : List (List ℕ)) (held : Option HeldBlock) (done : Deed) → length (magazines_by depth magazines held done) ≡ length magazines
+magazines-long depth magazines held (deed.gives need v words place) = given-long (served_by magazines (need_of need)) magazines (need_of need)
+magazines-long depth magazines held deed.frees = freed-long depth magazines held
+magazines-long depth magazines held (deed.replaces need words place) =
+    freed-long depth (magazines_given magazines (need_of need)) held ∙ given-long (served_by magazines (need_of need)) magazines (need_of need)
+magazines-long depth magazines held done = refl
 
 -- empty magazines keep nothing
 pub kept-nothing : (first n : ℕ) → kept_from first (replicate n []) ≡ []

@@ -7,9 +7,8 @@ use Rattle.pool_model.specs.declared.event.Event.{Event}
 use Rattle.trace_text.specs.declared.trace.Op.{Op}
 use Rattle.lane_outcomes.specs.declared.outcome.Outcome.{Outcome}
 use Rattle.lane_outcomes.specs.Cached.{CachedFits, CachedLanesFit}
-use Rattle.lane_outcomes.specs.Fits.{Fits, LanesFit}
+use Rattle.lane_outcomes.specs.Fits.{LanesFit}
 use Rattle.lane_outcomes.specs.Standing.{setting_in}
-use Rattle.lane_outcomes.proofs.RoomLemmas.{fits-plain, lanes-room}
 
 -- what holds of each operation of each lane holds of those of one lane
 pub lane-each :
@@ -46,13 +45,6 @@ cached-lane g history lost depth lanes outcomes hits fit k below =
       subst (λ n. CachedFits (setting_in history n g.turn_limit lost) depth (get_or lanes k []) (get_or outcomes k []) it.0)
           (let same : 0 + k ≡ k = omega arith in same) it.1,
     )
-
-pub lane-fits :
-    (g : Geometry) (history : List Event) (lost : ℕ) (lanes : List (List Op)) (outcomes : List (List Outcome)) → LanesFit g history lost 0 lanes outcomes
-    → (k : ℕ) → k < length lanes → Fits (setting_in history k g.turn_limit lost) (get_or lanes k []) (get_or outcomes k [])
-lane-fits g history lost lanes outcomes fit k below =
-    let it = cached-lane g history lost 0 lanes outcomes 0 (lanes-room g history lost 0 lanes outcomes fit) k below in
-    (fits-plain (setting_in history k g.turn_limit lost) (get_or lanes k []) (get_or outcomes k []) it.0 it.1).0
 
 -- there are as many lists of outcomes as lanes
 pub lanes-many :

@@ -5,15 +5,15 @@ use Rattle.pool_model.specs.declared.event.Event.{Event}
 use Rattle.pool_model.specs.Histories.{own}
 use Rattle.pool_model.proofs.HistoryLemmas.{own-append}
 use Rattle.trace_text.specs.declared.trace.Op.{Op}
-use Rattle.trace_text.specs.declared.trace.Op.TheVariants as op
 use Rattle.lane_outcomes.specs.declared.outcome.Outcome.{Outcome}
-use Rattle.lane_outcomes.specs.declared.outcome.Outcome.TheVariants as outcome
 use Rattle.lane_outcomes.specs.Rows.{Setting}
 use Rattle.lane_outcomes.proofs.FitLemmas.{copy-later, later, row-later}
 use Rattle.lane_outcomes.specs.Fits.{Fits}
 use Rattle.lane_outcomes.proofs.RoomLemmas.{fits-plain, fits-room}
-use Rattle.lane_outcomes.specs.Cached.{CachedFits, CachedPosition, CachedRow, CachedWalks, IsGivenBy, cached_after}
+use Rattle.lane_outcomes.specs.Cached.{CachedBy, CachedFits, CachedPosition, CachedRow, CachedWalks, IsGivenBy, cached_after}
 use Rattle.lane_outcomes.specs.Magazines.{served_by}
+use Rattle.lane_outcomes.specs.Deeds.{Deed, deed_of}
+use Rattle.lane_outcomes.specs.Deeds as deed
 
 given-later :
     (setting : Setting) (rest : List Event) (lost : ℕ) (position : CachedPosition) (need place : ℕ) (calls : List Event) (served : Option ℕ)
@@ -22,13 +22,13 @@ given-later setting rest lost position need place calls None is = is
 given-later setting rest lost position need place calls (Some at) is = is
 
 -- a row with a cache that fits a setting fits one with a longer history and more exchanges lost
-pub cached-row-later :
+by-later :
     (setting : Setting) (rest : List Event) (lost depth : ℕ) → setting.lost ≤ lost
-    → (position : CachedPosition) (operation : Op) (result : Outcome) (piece : List Event)
-    → CachedRow setting depth position operation result piece → CachedRow (later setting rest lost) depth position operation result piece
-cached-row-later setting rest lost depth more position (op.Alloc r need v) (outcome.Given words place) piece (empty, words_are, calls, given, is) =
+    → (position : CachedPosition) (operation : Op) (result : Outcome) (piece : List Event) (done : Deed)
+    → CachedBy setting depth position operation result piece done → CachedBy (later setting rest lost) depth position operation result piece done
+by-later setting rest lost depth more position operation result piece (deed.gives need v words place) (empty, words_are, calls, given, is) =
     (empty, words_are, calls, given-later setting rest lost position need place calls (served_by position.magazines (need_of need)) given, is)
-cached-row-later setting rest lost depth more position (op.Resize r need) (outcome.Resized words place) piece
+by-later setting rest lost depth more position operation result piece (deed.replaces need words place)
     (held, full, differ, words_are, calls, given, value, copy, is) = (
       held,
       full,
@@ -40,17 +40,19 @@ cached-row-later setting rest lost depth more position (op.Resize r need) (outco
       copy-later setting rest lost position.base held words value copy,
       is,
     )
-cached-row-later setting rest lost depth more position (op.Alloc r need v) outcome.Refused piece row =
-    (row.0, row-later setting rest lost more position.base (op.Alloc r need v) outcome.Refused piece row.1)
-cached-row-later setting rest lost depth more position (op.Alloc r need v) outcome.Spent piece row =
-    (row.0, row-later setting rest lost more position.base (op.Alloc r need v) outcome.Spent piece row.1)
-cached-row-later setting rest lost depth more position (op.Resize r need) outcome.Refused piece row =
-    (row.0, row-later setting rest lost more position.base (op.Resize r need) outcome.Refused piece row.1)
-cached-row-later setting rest lost depth more position (op.Resize r need) outcome.Spent piece row =
-    (row.0, row-later setting rest lost more position.base (op.Resize r need) outcome.Spent piece row.1)
-cached-row-later setting rest lost depth more position (op.Free r) outcome.Freed piece row = row
-cached-row-later setting rest lost depth more position operation result piece row =
-    row-later setting rest lost more position.base operation result piece row
+by-later setting rest lost depth more position operation result piece (deed.refuses need) row =
+    (row.0, row-later setting rest lost more position.base operation result piece row.1)
+by-later setting rest lost depth more position operation result piece (deed.spends need) row =
+    (row.0, row-later setting rest lost more position.base operation result piece row.1)
+by-later setting rest lost depth more position operation result piece deed.frees row = row
+by-later setting rest lost depth more position operation result piece done row = row-later setting rest lost more position.base operation result piece row
+
+pub cached-row-later :
+    (setting : Setting) (rest : List Event) (lost depth : ℕ) → setting.lost ≤ lost
+    → (position : CachedPosition) (operation : Op) (result : Outcome) (piece : List Event)
+    → CachedRow setting depth position operation result piece → CachedRow (later setting rest lost) depth position operation result piece
+cached-row-later setting rest lost depth more position operation result piece =
+    by-later setting rest lost depth more position operation result piece (deed_of operation result)
 
 -- a walk with a cache in a setting is one in a setting with a longer history and more exchanges lost
 pub cached-walks-later :

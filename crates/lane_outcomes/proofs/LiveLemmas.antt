@@ -1,5 +1,5 @@
 -- What is live, by the outcomes of lanes; lanes without caches stand as those without room in any magazine do.
-use Rattle.std.proofs.Common.{ℕ, ◌≡◌, ◌+◌, ◌-◌, ◌^◌, ◌≤◌, List, [], ◌∷◌, Vec, Global, map, length, subst, arith}
+use Rattle.std.proofs.Common.{ℕ, ◌≡◌, ◌-◌, ◌^◌, ◌≤◌, List, [], ◌∷◌, Vec, Global, map, length, subst, arith}
 use Rattle.heap_geometry.specs.declared.geometry.Geometry.{Geometry}
 use Rattle.heap_geometry.specs.declared.limits.TheConstants.{CLASSES}
 use Rattle.heap_geometry.specs.Geometry.{IsChecked}
@@ -12,11 +12,11 @@ use Rattle.trace_text.specs.declared.trace.Op.{Op}
 use Rattle.lane_outcomes.specs.declared.outcome.Outcome.{Outcome}
 use Rattle.lane_outcomes.specs.Fits.{OutcomesFit, Walks}
 use Rattle.lane_outcomes.specs.Lane.{Position, start}
-use Rattle.lane_outcomes.specs.LaneCounts.{AreHeld, as_one, as_words, lanes_freed, lanes_given, live_of}
+use Rattle.lane_outcomes.specs.LaneCounts.{AreHeld, as_one, as_words, live_of}
 use Rattle.lane_outcomes.specs.Rows.{Moment, Setting}
 use Rattle.lane_outcomes.specs.Standing.{HoldsOwn}
 use Rattle.lane_outcomes.proofs.CachedLemmas.{lane-holds}
-use Rattle.lane_outcomes.proofs.CountLemmas.{IsBalanced, cached-balanced, cached-total, few-ones, few-words}
+use Rattle.lane_outcomes.proofs.CountLemmas.{IsBalanced, cached-balanced, few-ones, few-words}
 use Rattle.lane_outcomes.proofs.KeptLemmas.{kept-nothing}
 use Rattle.lane_outcomes.proofs.MeasureLemmas.{measure, measure-blocks, measure-words}
 use Rattle.lane_outcomes.proofs.RoomLemmas.{outcomes-room, plain, walks-room}
@@ -30,14 +30,6 @@ pub registers-hold :
 registers-hold g setting operations results position legal walks moment =
     subst (λ kept. HoldsOwn (pool_of moment.before) setting.caller (slots kept position.registers)) (kept-nothing 0 CLASSES)
     (lane-holds g setting 0 operations results (plain position) legal (walks-room setting start position operations results walks) moment)
-
--- what is live and what the lanes freed are together what they were given
-pub live-total :
-    (f : ℕ → ℕ) (g : Geometry) (history : List Event) (lost : ℕ) (lanes : List (List Op)) (outcomes : List (List Outcome))
-    → IsLegalWithoutCounts g history → OutcomesFit g history lost lanes outcomes
-    → measure f (pool_of history) + lanes_freed f lanes outcomes ≡ lanes_given f lanes outcomes
-live-total f g history lost lanes outcomes legal fit =
-    cached-total f g history lost 0 lanes outcomes 0 legal (outcomes-room g history lost lanes outcomes fit)
 
 -- a lane's outcomes in memory are no more than memory can hold
 pub held-lists : (vecs : List (Vec Outcome Global)) → AreHeld (map (λ lane. lane.items) vecs)

@@ -19,8 +19,10 @@ use Rattle.lane_outcomes.specs.declared.outcome.Outcome.TheVariants as outcome
 use Rattle.lane_outcomes.specs.Fits.{Fits, LanesFit, OutcomesFit, Walks}
 use Rattle.lane_outcomes.specs.Lane.{Position, held_in, position_after, start, writing}
 use Rattle.lane_outcomes.specs.Rows.{AllocRow, FitsRow, FreeRow, MayAsk, ResizeRow, Setting}
-use Rattle.lane_outcomes.specs.Cached.{CachedFits, CachedLanesFit, CachedOutcomesFit, CachedPosition, CachedRow, CachedWalks, IsGivenBy, cached_after, magazines_after, served_for}
+use Rattle.lane_outcomes.specs.Cached.{CachedFits, CachedLanesFit, CachedOutcomesFit, CachedPosition, CachedRow, CachedWalks, IsGivenBy, cached_after, magazines_by, served_with}
 use Rattle.lane_outcomes.specs.Magazines.{empty_magazines, emptying, freeing, given_from, is_kept, kept_with, last_in, magazine_of, magazines_freed, magazines_given, served_by}
+use Rattle.lane_outcomes.specs.Deeds.{Deed, deed_of, register_of}
+use Rattle.lane_outcomes.specs.Deeds as deed
 
 -- empty magazines serve nothing
 abbrev pub no_places : List ℕ
@@ -59,17 +61,16 @@ none-emptied : (caller : ℕ) → emptying caller empty_magazines ≡ []
 none-emptied caller = ap (map (λ place. Free caller place)) (none-left CLASSES)
 
 -- empty magazines without room stay empty after an operation
-magazines-stay : (registers : List (Option HeldBlock)) (operation : Op) (result : Outcome) → magazines_after 0 empty_magazines registers operation result ≡ empty_magazines
-magazines-stay registers (op.Alloc r need v) (outcome.Given words place) = none-given (need_of need)
-magazines-stay registers (op.Free r) outcome.Freed = none-freed empty_magazines (held_in registers r)
-magazines-stay registers (op.Resize r need) (outcome.Resized words place) =
-    none-freed (magazines_given empty_magazines (need_of need)) (held_in registers r) ∙ none-given (need_of need)
-magazines-stay registers operation result = refl
+magazines-stay : (held : Option HeldBlock) (done : Deed) → magazines_by 0 empty_magazines held done ≡ empty_magazines
+magazines-stay held (deed.gives need v words place) = none-given (need_of need)
+magazines-stay held deed.frees = none-freed empty_magazines held
+magazines-stay held (deed.replaces need words place) = none-freed (magazines_given empty_magazines (need_of need)) held ∙ none-given (need_of need)
+magazines-stay held done = refl
 
-none-for : (operation : Op) (result : Outcome) → served_for empty_magazines operation result ≡ None
-none-for (op.Alloc r need v) (outcome.Given words place) = none-served (need_of need)
-none-for (op.Resize r need) (outcome.Resized words place) = none-served (need_of need)
-none-for operation result = refl
+none-for : (done : Deed) → served_with empty_magazines done ≡ None
+none-for (deed.gives need v words place) = none-served (need_of need)
+none-for (deed.replaces need words place) = none-served (need_of need)
+none-for done = refl
 
 -- a lane at this position whose magazines are empty
 abbrev pub plain : Position → CachedPosition
@@ -79,8 +80,8 @@ plain-after :
     (position : Position) (operation : Op) (result : Outcome) (piece : List Event)
     → cached_after 0 (plain position) operation result piece ≡ plain (position_after position operation result piece)
 plain-after position operation result piece =
-    let none = none-for operation result in
-    let stay = magazines-stay position.registers operation result in
+    let none = none-for (deed_of operation result) in
+    let stay = magazines-stay (held_in position.registers (register_of operation)) (deed_of operation result) in
     rw none (rw stay refl)
 
 pub given-plain :
@@ -115,6 +116,8 @@ row-plain setting position (op.Resize r need) outcome.Spent piece row = row.1
 row-plain setting position (op.Free r) outcome.Freed piece (held, full, is) =
     subst (λ slot. FreeRow setting slot outcome.Freed piece) (sym full)
     (is ∙ ap (λ keeps. freeing setting.caller keeps held.place) (none-kept empty_magazines held.need))
+row-plain setting position (op.Put r shelf) outcome.Put piece row = row
+row-plain setting position (op.Take r shelf) (outcome.Took words place need) piece row = row
 row-plain setting position operation result piece row = row
 
 pub walks-plain :
@@ -202,7 +205,7 @@ free-room setting position r piece None full row = absurd row
 free-room setting position r piece (Some held) full row =
     (held, full, row ∙ ap (λ keeps. freeing setting.caller keeps held.place) (sym (none-kept empty_magazines held.need)))
 
-row-room :
+pub row-room :
     (setting : Setting) (position : Position) (operation : Op) (result : Outcome) (piece : List Event) → FitsRow setting position operation result piece
     → CachedRow setting 0 (plain position) operation result piece
 row-room setting position (op.Alloc r need v) (outcome.Given words place) piece row =
@@ -214,6 +217,8 @@ row-room setting position (op.Alloc r need v) outcome.Refused piece row = (none-
 row-room setting position (op.Alloc r need v) outcome.Spent piece row = (none-served (need_of need), row)
 row-room setting position (op.Resize r need) outcome.Refused piece row = (none-served (need_of need), row)
 row-room setting position (op.Resize r need) outcome.Spent piece row = (none-served (need_of need), row)
+row-room setting position (op.Put r shelf) outcome.Put piece row = row
+row-room setting position (op.Take r shelf) (outcome.Took words place need) piece row = row
 row-room setting position operation result piece row = row
 
 pub walks-room :

@@ -7,10 +7,10 @@ use Rattle.pool_model.specs.declared.event.Event.{Event}
 use Rattle.pool_model.specs.Calls.{EventsOf, alloc_given}
 use Rattle.pool_model.specs.Histories.{own, caller_of}
 use Rattle.trace_text.specs.declared.trace.Op.{Op}
-use Rattle.trace_text.specs.declared.trace.Op.TheVariants as op
 use Rattle.lane_outcomes.specs.declared.registers.HeldBlock.{HeldBlock}
 use Rattle.lane_outcomes.specs.declared.outcome.Outcome.{Outcome}
-use Rattle.lane_outcomes.specs.declared.outcome.Outcome.TheVariants as outcome
+use Rattle.lane_outcomes.specs.Deeds.{Deed, deed_of, register_of}
+use Rattle.lane_outcomes.specs.Deeds as deed
 use Rattle.lane_outcomes.specs.Lane.{Position, answered_after, filling, held_in, registers_after, spent_after, start, writing}
 use Rattle.lane_outcomes.specs.Rows.{FitsRow, IsCopy, MayAsk, Setting}
 use Rattle.lane_outcomes.specs.Standing.{setting_in}
@@ -34,38 +34,54 @@ IsGivenBy None setting position need place calls = MayAsk position.base need × 
 abbrev pub IsGiven : Setting → CachedPosition → ℕ → ℕ → List Event → Type 0
 IsGiven setting position need = IsGivenBy (served_by position.magazines (need_of need)) setting position need
 
--- the operation may have this outcome, and then adds this piece to its lane's own events. A block is given by a magazine or by the heap, and only the heap refuses one; a free keeps
--- its block or gives it back, that of a resize too, behind its allocation. All else is as without a cache
-abbrev pub CachedRow : Setting → ℕ → CachedPosition → Op → Outcome → List Event → Type 0
-CachedRow setting depth position (op.Alloc r need v) (outcome.Given words place) piece =
+-- an empty register is given a block for a need, which is filled from v on
+abbrev pub GivenRow : Setting → CachedPosition → ℕ → ℕ → ℕ → ℕ → ℕ → List Event → Type 0
+GivenRow setting position r need v words place piece =
     (held_in position.base.registers r ≡ None) × (words ≡ usable_words (need_of need))
     × (calls : List Event) × IsGiven setting position need place calls
     × (piece ≡ calls ++ filling setting.caller place words v)
-CachedRow setting depth position (op.Resize r need) (outcome.Resized words place) piece =
+
+-- a full register is given a block for another need, with the words of its own, which is freed: kept or given back, behind the allocation
+abbrev pub ReplacedRow : Setting → ℕ → CachedPosition → ℕ → ℕ → ℕ → ℕ → List Event → Type 0
+ReplacedRow setting depth position r need words place piece =
     (held : HeldBlock) × (held_in position.base.registers r ≡ Some held) × (need_of need ≢ held.need) × (words ≡ usable_words (need_of need))
     × (calls : List Event) × IsGiven setting position need place calls
     × (value : ℕ → ℕ) × IsCopy setting position.base held words value
     × (piece
     ≡ calls ++ writing setting.caller place words value
     ++ freeing setting.caller (is_kept depth (magazines_given position.magazines (need_of need)) held.need) held.place)
-CachedRow setting depth position (op.Alloc r need v) outcome.Refused piece =
-    (served_by position.magazines (need_of need) ≡ None) × FitsRow setting position.base (op.Alloc r need v) outcome.Refused piece
-CachedRow setting depth position (op.Alloc r need v) outcome.Spent piece =
-    (served_by position.magazines (need_of need) ≡ None) × FitsRow setting position.base (op.Alloc r need v) outcome.Spent piece
-CachedRow setting depth position (op.Resize r need) outcome.Refused piece =
-    (served_by position.magazines (need_of need) ≡ None) × FitsRow setting position.base (op.Resize r need) outcome.Refused piece
-CachedRow setting depth position (op.Resize r need) outcome.Spent piece =
-    (served_by position.magazines (need_of need) ≡ None) × FitsRow setting position.base (op.Resize r need) outcome.Spent piece
-CachedRow setting depth position (op.Free r) outcome.Freed piece =
+
+-- a full register's block is freed: kept or given back
+abbrev pub FreedRow : Setting → ℕ → CachedPosition → ℕ → List Event → Type 0
+FreedRow setting depth position r piece =
     (held : HeldBlock) × (held_in position.base.registers r ≡ Some held)
     × (piece ≡ freeing setting.caller (is_kept depth position.magazines held.need) held.place)
-CachedRow setting depth position operation result piece = FitsRow setting position.base operation result piece
 
--- the magazine's block that served an operation with this outcome, if one did
+-- the operation may have this outcome, and then adds this piece to its lane's own events. A block is given by a magazine or by the heap, and only the heap
+-- refuses one. All else is as without a cache
+abbrev pub CachedBy : Setting → ℕ → CachedPosition → Op → Outcome → List Event → Deed → Type 0
+CachedBy setting depth position operation result piece (deed.gives need v words place) =
+    GivenRow setting position (register_of operation) need v words place piece
+CachedBy setting depth position operation result piece (deed.replaces need words place) =
+    ReplacedRow setting depth position (register_of operation) need words place piece
+CachedBy setting depth position operation result piece deed.frees = FreedRow setting depth position (register_of operation) piece
+CachedBy setting depth position operation result piece (deed.refuses need) =
+    (served_by position.magazines (need_of need) ≡ None) × FitsRow setting position.base operation result piece
+CachedBy setting depth position operation result piece (deed.spends need) =
+    (served_by position.magazines (need_of need) ≡ None) × FitsRow setting position.base operation result piece
+CachedBy setting depth position operation result piece done = FitsRow setting position.base operation result piece
+
+abbrev pub CachedRow : Setting → ℕ → CachedPosition → Op → Outcome → List Event → Type 0
+CachedRow setting depth position operation result piece = CachedBy setting depth position operation result piece (deed_of operation result)
+
+-- the magazine's block that served an operation, if one did
+abbrev pub served_with : List (List ℕ) → Deed → Option ℕ
+served_with magazines (deed.gives need v words place) = served_by magazines (need_of need)
+served_with magazines (deed.replaces need words place) = served_by magazines (need_of need)
+served_with magazines done = None
+
 abbrev pub served_for : List (List ℕ) → Op → Outcome → Option ℕ
-served_for magazines (op.Alloc r need v) (outcome.Given words place) = served_by magazines (need_of need)
-served_for magazines (op.Resize r need) (outcome.Resized words place) = served_by magazines (need_of need)
-served_for magazines operation result = None
+served_for magazines operation result = served_with magazines (deed_of operation result)
 
 -- an operation that was served is a hit, and not one of those that the heap answered
 abbrev pub hit_of : Option ℕ → ℕ
@@ -76,13 +92,16 @@ abbrev pub answered_by : Option ℕ → ℕ → Op → Outcome → ℕ
 answered_by None answered operation result = answered_after answered operation result
 answered_by (Some place) answered operation result = answered
 
--- the magazines after an operation
+-- the magazines after an operation, whose register held this
+abbrev pub magazines_by : ℕ → List (List ℕ) → Option HeldBlock → Deed → List (List ℕ)
+magazines_by depth magazines held (deed.gives need v words place) = magazines_given magazines (need_of need)
+magazines_by depth magazines held deed.frees = magazines_freed depth magazines held
+magazines_by depth magazines held (deed.replaces need words place) = magazines_freed depth (magazines_given magazines (need_of need)) held
+magazines_by depth magazines held done = magazines
+
 abbrev pub magazines_after : ℕ → List (List ℕ) → List (Option HeldBlock) → Op → Outcome → List (List ℕ)
-magazines_after depth magazines registers (op.Alloc r need v) (outcome.Given words place) = magazines_given magazines (need_of need)
-magazines_after depth magazines registers (op.Free r) outcome.Freed = magazines_freed depth magazines (held_in registers r)
-magazines_after depth magazines registers (op.Resize r need) (outcome.Resized words place) =
-    magazines_freed depth (magazines_given magazines (need_of need)) (held_in registers r)
-magazines_after depth magazines registers operation result = magazines
+magazines_after depth magazines registers operation result =
+    magazines_by depth magazines (held_in registers (register_of operation)) (deed_of operation result)
 
 -- the lane after an operation with its outcome and the events that it added
 abbrev pub cached_after : ℕ → CachedPosition → Op → Outcome → List Event → CachedPosition

@@ -1,5 +1,5 @@
 -- Where a lane stands between two of its operations, and what an operation does to it.
-use Rattle.std.specs.Prelude.{ℕ, suc, ◌+◌, ◌%◌, ◌^◌, ◌++◌, List, [], Bool, true, false, Option, Some, None, map, replicate, slice_set, if◌then◌else◌}
+use Rattle.std.specs.Prelude.{ℕ, suc, ◌+◌, ◌%◌, ◌^◌, ◌++◌, List, [], Bool, true, false, Option, None, map, replicate, if◌then◌else◌}
 use Rattle.std.specs.List.{range_with_len, slice_index_or}
 use Rattle.heap_geometry.specs.declared.need.Need.{Need}
 use Rattle.heap_geometry.specs.declared.need.Need.TheVariants.{Small, Large, TooLarge}
@@ -8,10 +8,11 @@ use Rattle.pool_model.specs.declared.event.Event.{Event}
 use Rattle.pool_model.specs.declared.event.Event.TheVariants.{Write}
 use Rattle.trace_text.specs.declared.limits.TheConstants.{REGISTERS}
 use Rattle.trace_text.specs.declared.trace.Op.{Op}
-use Rattle.trace_text.specs.declared.trace.Op.TheVariants as op
 use Rattle.lane_outcomes.specs.declared.registers.HeldBlock.{HeldBlock}
 use Rattle.lane_outcomes.specs.declared.outcome.Outcome.{Outcome}
 use Rattle.lane_outcomes.specs.declared.outcome.Outcome.TheVariants as outcome
+use Rattle.lane_outcomes.specs.Deeds.{Deed, deed_of, register_of, registers_by}
+use Rattle.lane_outcomes.specs.Deeds as deed
 
 -- a lane between two operations: what each of its registers holds, its own events so far, how many of its small
 -- allocations, resizes among them, were given a block or refused, and whether it has no turn left
@@ -31,15 +32,7 @@ held_in registers r = slice_index_or registers r None
 
 -- the registers after an operation with its outcome
 abbrev pub registers_after : List (Option HeldBlock) → Op → Outcome → List (Option HeldBlock)
-registers_after registers (op.Alloc r need v) (outcome.Given words place) =
-    slice_set registers r (Some (record { place = place; words = words; need = need_of need }))
-registers_after registers (op.Take r shelf) (outcome.Took words place need) =
-    slice_set registers r (Some (record { place = place; words = words; need = need }))
-registers_after registers (op.Resize r need) (outcome.Resized words place) =
-    slice_set registers r (Some (record { place = place; words = words; need = need_of need }))
-registers_after registers (op.Free r) outcome.Freed = slice_set registers r None
-registers_after registers (op.Put r shelf) outcome.Put = slice_set registers r None
-registers_after registers operation result = registers
+registers_after registers operation result = registers_by registers (register_of operation) (deed_of operation result)
 
 -- whether small blocks serve a need
 abbrev pub is_small : Need → Bool
@@ -48,12 +41,14 @@ is_small (Large units) = false
 is_small TooLarge = false
 
 -- how many small allocations were given a block or refused, after one operation more
+abbrev pub answered_with : ℕ → Deed → ℕ
+answered_with answered (deed.gives need v words place) = if is_small (need_of need) then suc answered else answered
+answered_with answered (deed.replaces need words place) = if is_small (need_of need) then suc answered else answered
+answered_with answered (deed.refuses need) = if is_small (need_of need) then suc answered else answered
+answered_with answered done = answered
+
 abbrev pub answered_after : ℕ → Op → Outcome → ℕ
-answered_after answered (op.Alloc r need v) (outcome.Given words place) = if is_small (need_of need) then suc answered else answered
-answered_after answered (op.Alloc r need v) outcome.Refused = if is_small (need_of need) then suc answered else answered
-answered_after answered (op.Resize r need) (outcome.Resized words place) = if is_small (need_of need) then suc answered else answered
-answered_after answered (op.Resize r need) outcome.Refused = if is_small (need_of need) then suc answered else answered
-answered_after answered operation result = answered
+answered_after answered operation result = answered_with answered (deed_of operation result)
 
 -- whether the lane has no turn left, after one operation more
 abbrev pub spent_after : Bool → Outcome → Bool

@@ -1,27 +1,21 @@
 -- What the outcomes of lanes give and free, block by block.
 use Rattle.std.specs.Prelude.{ℕ, ◌+◌, ◌-◌, ◌^◌, ◌<◌, ◌≡◌, ◌∷◌, List, [], Option, Some, None, length, min, replicate}
 use Rattle.std.specs.List.{AllByRecursion}
-use Rattle.std.specs.Option.{option_map}
 use Rattle.trace_text.specs.declared.limits.TheConstants.{REGISTERS}
 use Rattle.trace_text.specs.declared.trace.Op.{Op}
-use Rattle.trace_text.specs.declared.trace.Op.TheVariants as op
 use Rattle.lane_outcomes.specs.declared.registers.HeldBlock.{HeldBlock}
 use Rattle.lane_outcomes.specs.declared.outcome.Outcome.{Outcome}
-use Rattle.lane_outcomes.specs.declared.outcome.Outcome.TheVariants as outcome
 use Rattle.lane_outcomes.specs.declared.live.Amount.{Amount}
+use Rattle.lane_outcomes.specs.Deeds.{deed_of, freed_by, given_by, register_of}
 use Rattle.lane_outcomes.specs.Lane.{held_in, registers_after}
 
 -- the words of the block that an operation was given
 abbrev pub words_given : Op → Outcome → Option ℕ
-words_given (op.Alloc r need v) (outcome.Given words place) = Some words
-words_given (op.Resize r need) (outcome.Resized words place) = Some words
-words_given operation result = None
+words_given operation result = given_by (deed_of operation result)
 
 -- the words of the block that an operation freed
 abbrev pub words_freed : List (Option HeldBlock) → Op → Outcome → Option ℕ
-words_freed registers (op.Free r) outcome.Freed = option_map (λ held. held.words) (held_in registers r)
-words_freed registers (op.Resize r need) (outcome.Resized words place) = option_map (λ held. held.words) (held_in registers r)
-words_freed registers operation result = None
+words_freed registers operation result = freed_by (held_in registers (register_of operation)) (deed_of operation result)
 
 -- what a block counts, if there is one, where one of so many words counts as `f` says
 abbrev pub count_with : (ℕ → ℕ) → Option ℕ → ℕ

@@ -1,4 +1,5 @@
 pub mod Cached
+pub mod Deeds
 pub mod Fits
 pub mod Lane
 pub mod LaneCounts

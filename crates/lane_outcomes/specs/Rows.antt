@@ -13,6 +13,7 @@ use Rattle.trace_text.specs.declared.trace.Op.TheVariants as op
 use Rattle.lane_outcomes.specs.declared.registers.HeldBlock.{HeldBlock}
 use Rattle.lane_outcomes.specs.declared.outcome.Outcome.{Outcome}
 use Rattle.lane_outcomes.specs.declared.outcome.Outcome.TheVariants as outcome
+use Rattle.lane_outcomes.specs.Deeds.{register_of}
 use Rattle.lane_outcomes.specs.Lane.{Position, held_in, is_small, filling, writing}
 
 -- what a lane's outcomes are held against: its number, the most turns of a caller, and the history and the lost exchanges of the closed heap
@@ -138,12 +139,15 @@ ResizeRow setting position need (Some held) outcome.Spent piece =
     (need_of need ≢ held.need) × IsSpent setting position need piece position.spent
 ResizeRow setting position need held result piece = ⊥
 
--- the operation may have this outcome, and then adds this piece to its lane's own events
+-- the operation, whose register holds this, may have this outcome, and then adds this piece to its lane's own events
+abbrev pub RowAt : Setting → Position → Op → Option HeldBlock → Outcome → List Event → Type 0
+RowAt setting position (op.Alloc r need v) held result piece = AllocRow setting position need v held result piece
+RowAt setting position (op.Free r) held result piece = FreeRow setting held result piece
+RowAt setting position (op.Fill r v) held result piece = FillRow setting v held result piece
+RowAt setting position (op.Check r) held result piece = CheckRow setting position held result piece
+RowAt setting position (op.Put r shelf) held result piece = PutRow setting position shelf held result piece
+RowAt setting position (op.Take r shelf) held result piece = TakeRow setting position shelf held result piece
+RowAt setting position (op.Resize r need) held result piece = ResizeRow setting position need held result piece
+
 abbrev pub FitsRow : Setting → Position → Op → Outcome → List Event → Type 0
-FitsRow setting position (op.Alloc r need v) result piece = AllocRow setting position need v (held_in position.registers r) result piece
-FitsRow setting position (op.Free r) result piece = FreeRow setting (held_in position.registers r) result piece
-FitsRow setting position (op.Fill r v) result piece = FillRow setting v (held_in position.registers r) result piece
-FitsRow setting position (op.Check r) result piece = CheckRow setting position (held_in position.registers r) result piece
-FitsRow setting position (op.Put r shelf) result piece = PutRow setting position shelf (held_in position.registers r) result piece
-FitsRow setting position (op.Take r shelf) result piece = TakeRow setting position shelf (held_in position.registers r) result piece
-FitsRow setting position (op.Resize r need) result piece = ResizeRow setting position need (held_in position.registers r) result piece
+FitsRow setting position operation result piece = RowAt setting position operation (held_in position.registers (register_of operation)) result piece

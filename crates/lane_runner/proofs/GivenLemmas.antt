@@ -1,6 +1,6 @@
 -- An operation of a lane through a cache that is given a block, or frees one: by a magazine, or by the heap.
-use Rattle.std.proofs.Common.{ℕ, Bool, suc, true, ◌≡◌, ◌≢◌, ◌<◌, ◌+◌, ◌-◌, ◌%◌, ◌^◌, ◌∷◌, ◌++◌, List, [], Option, Some, None, length, refl, sym, ap, ◌∙◌, subst, inl, inr, arith}
-use Rattle.std.specs.Prelude.{min, if◌then◌else◌}
+use Rattle.std.proofs.Common.{ℕ, Bool, true, ◌≡◌, ◌≢◌, ◌<◌, ◌+◌, ◌-◌, ◌%◌, ◌^◌, ◌∷◌, ◌++◌, List, [], Some, None, length, refl, sym, ap, ◌∙◌, subst, inl, inr, arith}
+use Rattle.std.specs.Prelude.{min}
 use Rattle.std.specs.List.{range_with_len}
 use Rattle.heap_geometry.specs.declared.need.Need.{Need}
 use Rattle.heap_geometry.specs.Need.{need_of, usable_words}
@@ -14,13 +14,11 @@ use Rattle.live_heap.specs.declared.block.Block.{Block}
 use Rattle.live_heap.specs.Heaps.{HeapFields}
 use Rattle.live_heap.specs.declared.pass.Pass.{Pass}
 use Rattle.live_heap.specs.Passes.{seen}
-use Rattle.trace_text.specs.declared.trace.Op.{Op}
 use Rattle.trace_text.specs.declared.trace.Op.TheVariants as op
 use Rattle.lane_outcomes.specs.declared.registers.HeldBlock.{HeldBlock}
-use Rattle.lane_outcomes.specs.declared.outcome.Outcome.{Outcome}
 use Rattle.lane_outcomes.specs.declared.outcome.Outcome.TheVariants as outcome
-use Rattle.lane_outcomes.specs.Cached.{IsGivenBy, answered_by, hit_of}
-use Rattle.lane_outcomes.specs.Lane.{Position, answered_after, filling, held_in, is_small, writing}
+use Rattle.lane_outcomes.specs.Cached.{IsGivenBy, hit_of}
+use Rattle.lane_outcomes.specs.Lane.{Position, filling, held_in, writing}
 use Rattle.lane_outcomes.specs.Magazines.{freeing, is_kept, kept_with, magazines_freed, magazines_given, served_by}
 use Rattle.lane_outcomes.specs.Rows.{Setting}
 use Rattle.lane_outcomes.specs.Standing.{setting_in}
@@ -34,11 +32,10 @@ use Rattle.trace_lane.proofs.AddedLemmas.{HasAdded, added-none, added-then, valu
 use Rattle.trace_lane.proofs.EachCall.{all-copied, all-wrote}
 use Rattle.trace_lane.proofs.QuietLemmas.{AllQuiet, quiet-giving}
 use Rattle.trace_lane.proofs.RowLemmas.{copies, gives as heap-gives}
-use Rattle.trace_lane.proofs.TurnLemmas.{answered_in, giving-count, piece-count, piece-none, small-more, writes-none}
 use Rattle.lane_runner.proofs.CallLemmas.{alloc-by, caller_in, free-by, pass-rests, plain, plain-leads}
 use Rattle.lane_runner.proofs.PassLemmas.{caller_at, rests-caller}
 use Rattle.lane_runner.proofs.Places.{kept-freed, not-given, not-kept, not-served, places_in, room-kept, same-places, served-by, served-given}
-use Rattle.lane_runner.proofs.RowLemmas.{HasGone, IsBetween, quiet-freeing, quiet-more, setting_at, stands_at}
+use Rattle.lane_runner.proofs.RowLemmas.{HasGone, IsBetween, setting_at, stands_at}
 
 -- an allocation of a lane that stands so was given the block at this place
 record HasGiven (h : HeapFields) (c t : Cache) (base : Position) (need place : ℕ) : Type 0 where
@@ -94,18 +91,6 @@ gives h c t base need place st one =
             hits = λ less. let no_hit : hit_of (served_by (places_in c) (need_of need)) ≡ 0 = ap hit_of not in keeps.hits ∙ omega (arith, no_hit);
           }
     ]
-
--- an operation that was given a block is one more that was answered, unless a magazine served it
-given-answers :
-    (setting : Setting) (c : Cache) (base : Position) (operation : Op) (result : Outcome) (need place : ℕ) (calls : List Event) (served : Option ℕ)
-    → answered_after base.answered operation result ≡ (if is_small (need_of need) then suc base.answered else base.answered)
-    → IsGivenBy served setting (stands_at c base) need place calls → base.answered ≡ answered_in setting.caller base.done
-    → answered_by served base.answered operation result ≡ answered_in setting.caller (base.done ++ calls)
-given-answers setting c base operation result need place calls None is given so_far =
-    is ∙ small-more need base.answered
-    ∙ piece-count setting.caller base.done calls base.answered _ so_far (giving-count setting.caller need place (need_of need) calls given.1)
-given-answers setting c base operation result need place calls (Some at) is given so_far =
-    piece-none setting.caller base.done calls base.answered so_far (ap (answered_in setting.caller) given.1)
 
 -- a block was freed: its magazine kept it, or the heap has it
 record HasFreed (h : HeapFields) (u d : Cache) (place : ℕ) (need : Need) : Type 0 where
@@ -164,7 +149,6 @@ module _ (h : HeapFields) (c d : Cache) (base : Position) (st : IsBetween h c ba
         piece = piece;
         added = f.added;
         row = (held, full, refl);
-        answered = piece-none caller base.done piece base.answered st.plain.answered (quiet-freeing caller keeps held.place);
         magazines = f.magazines ∙ ap (magazines_freed depth (places_in c)) (sym full);
         hits = λ less. f.hits ∙ omega arith;
         spent = λ is. absurd (cc);
@@ -183,15 +167,10 @@ module _ (h : HeapFields) (c d : Cache) (base : Position) (st : IsBetween h c ba
       subst (λ k. HasAdded h.layout (caller_in t) (caller_in d) (filling k place words v)) g.added.moved.same_caller
       (writes-added h.layout place (need_of need) value words 0 (caller_in t) (caller_in d) g.added.rests a.leads) in
       let by = g.given (seen d.pass) d.pass.errand.lost in
-      let served = served_by (places_in c) (need_of need) in
       record {
         piece = g.calls ++ fills;
         added = added-then h.layout (caller_in c) (caller_in t) (caller_in d) g.calls fills g.added wrote_so;
         row = (empty, words_are, g.calls, by, refl);
-        answered =
-            quiet-more caller _ base.done g.calls fills
-            (given-answers setting c base (op.Alloc r need v) (outcome.Given words place) need place g.calls served refl by st.plain.answered)
-            (writes-none caller words 0 caller place value);
         magazines = same-places t d a.keeps ∙ g.magazines;
         hits = λ less. a.keeps.hits ∙ g.hits less;
         spent = λ is. absurd (cc);
@@ -231,15 +210,10 @@ module _ (h : HeapFields) (c d : Cache) (base : Position) (st : IsBetween h c ba
       let piece = g.calls ++ writes ++ frees_it in
       let added = added-then h.layout (caller_in c) (caller_in u) (caller_in d) (g.calls ++ writes) frees_it copied_so freed_so in
       let by = g.given (seen d.pass) d.pass.errand.lost in
-      let served = served_by (places_in c) n in
-      let quiet_writes = quiet-more caller _ base.done g.calls writes
-      (given-answers setting c base (op.Resize r need) (outcome.Resized words place) need place g.calls served refl by st.plain.answered)
-      (writes-none caller words 0 caller place (value_of found)) in
       record {
         piece = piece;
         added = added;
         row = (held, full, differ, words_are, g.calls, by, value_of found, copy piece added, refl);
-        answered = quiet-more caller _ base.done (g.calls ++ writes) frees_it quiet_writes (quiet-freeing caller keeps held.place);
         magazines =
             f.magazines ∙ ap (λ k. kept_with k (places_in u) held.place held.need) keeps_same
             ∙ ap (λ ms. kept_with keeps ms held.place held.need) same_places

@@ -1,5 +1,5 @@
 -- What one operation of a lane through a cache makes: what it makes on the cache's pass, but for what magazines serve.
-use Rattle.std.proofs.Common.{ℕ, Bool, true, false, ◌≡◌, ◌<◌, ◌+◌, ◌^◌, ◌∷◌, ◌++◌, List, [], Option, None, append_assoc, refl, sym, ap, ◌∙◌, subst, inl, inr, arith}
+use Rattle.std.proofs.Common.{ℕ, ◌≡◌, ◌<◌, ◌+◌, ◌^◌, ◌∷◌, List, [], Option, None, refl, sym, ap, ◌∙◌, subst, inl, inr, arith}
 use Rattle.heap_geometry.specs.Need.{need_of}
 use Rattle.pool_model.specs.declared.event.Event.{Event}
 use Rattle.errand_steps.specs.declared.reply.Reply.{Reply}
@@ -9,24 +9,24 @@ use Rattle.sound_laws.specs.events.Made.{LeadsBy, Made, answered}
 use Rattle.live_heap.specs.declared.block.Block.{Block}
 use Rattle.live_heap.specs.Heaps.{HeapFields}
 use Rattle.trace_text.specs.declared.trace.Op.{Op}
+use Rattle.lane_outcomes.specs.Deeds.{register_of}
 use Rattle.lane_outcomes.specs.declared.registers.HeldBlock.{HeldBlock}
 use Rattle.lane_outcomes.specs.declared.outcome.Outcome.{Outcome}
 use Rattle.lane_outcomes.specs.declared.outcome.Outcome.TheVariants as outcome
-use Rattle.lane_outcomes.specs.Cached.{CachedPosition, CachedRow, answered_by, hit_of, magazines_after, served_for}
+use Rattle.lane_outcomes.specs.Cached.{CachedPosition, CachedRow, hit_of, magazines_after, served_for}
 use Rattle.lane_outcomes.specs.Lane.{Position, held_in}
-use Rattle.lane_outcomes.specs.Magazines.{freeing, served_by}
+use Rattle.lane_outcomes.specs.Magazines.{served_by}
 use Rattle.lane_outcomes.specs.Rows.{FitsRow, Setting}
 use Rattle.block_cache.specs.declared.cache.Cache.{Cache}
 use Rattle.block_cache.specs.Caches.{KeepsMagazines}
 use Rattle.block_cache.specs.Whole.{HoldsAt, RestsAt}
 use Rattle.lane_engine.specs.Caches.{IsCachedCall}
-use Rattle.trace_lane.specs.Made.{MadeFor, register_of}
+use Rattle.trace_lane.specs.Made.{MadeFor}
 use Rattle.trace_lane.proofs.AddedLemmas.{HasAdded}
 use Rattle.trace_lane.proofs.CallerLemmas.{Owns}
 use Rattle.trace_lane.proofs.EachCall.{AllCalls}
 use Rattle.trace_lane.proofs.HoldsLemmas.{HoldsAll, holds-still}
 use Rattle.trace_lane.proofs.RowLemmas.{HasGone as HasGoneOn, IsBetween as IsBetweenOn, op-gone, setting_at as setting_on}
-use Rattle.trace_lane.proofs.TurnLemmas.{answered-append, answered-row, answered_in}
 use Rattle.lane_runner.proofs.CallLemmas.{IsPlain, alloc-by, caller_in, plain-leads}
 use Rattle.lane_runner.proofs.Places.{not-served, places_in, same-places}
 
@@ -54,28 +54,11 @@ pub record HasGone (h : HeapFields) (c d : Cache) (base : Position) (operation :
   pub piece : List Event
   pub added : HasAdded h.layout (caller_in c) (caller_in d) piece
   pub row : CachedRow (setting_at h c d) c.magazines.depth (stands_at c base) operation result piece
-  pub answered :
-      answered_by (served_for (places_in c) operation result) base.answered operation result
-      ≡ answered_in c.pass.errand.caller (base.done ++ piece)
   pub magazines : places_in d ≡ magazines_after c.magazines.depth (places_in c) base.registers operation result
   pub hits :
       c.hits + hit_of (served_for (places_in c) operation result) < 2 ^ 64
       → d.hits ≡ c.hits + hit_of (served_for (places_in c) operation result)
   pub spent : result ≡ outcome.Spent → d.pass.errand.turns ≡ h.layout.turn_limit
-
--- events behind others that are no answers
-pub quiet-more :
-    (caller count : ℕ) (done calls more : List Event) → count ≡ answered_in caller (done ++ calls) → answered_in caller more ≡ 0
-    → count ≡ answered_in caller (done ++ (calls ++ more))
-quiet-more caller count done calls more is none =
-    let all = answered-append caller (done ++ calls) more in
-    let same : answered_in caller ((done ++ calls) ++ more) ≡ answered_in caller (done ++ (calls ++ more)) =
-    ap (answered_in caller) (append_assoc done calls more) in
-    omega (arith, is, none, all, same)
-
-pub quiet-freeing : (caller : ℕ) (keeps : Bool) (place : ℕ) → answered_in caller (freeing caller keeps place) ≡ 0
-quiet-freeing caller true place = refl
-quiet-freeing caller false place = refl
 
 module _ (h : HeapFields) (c d : Cache) (base : Position) (st : IsBetween h c base) where
   abbrev depth : ℕ
@@ -93,9 +76,6 @@ module _ (h : HeapFields) (c d : Cache) (base : Position) (st : IsBetween h c ba
     piece = gone.piece;
     added = gone.added;
     row = row;
-    answered =
-        ap (λ served. answered_by served base.answered operation result) none
-        ∙ answered-row (setting_at h c d) base operation result gone.piece gone.row st.plain.answered;
     magazines = same-places c d keeps ∙ sym same;
     hits = λ less. keeps.hits ∙ (let no_hit : hit_of (served_for (places_in c) operation result) ≡ 0 = ap hit_of none in omega (arith, no_hit));
     spent = gone.spent;

@@ -8,6 +8,7 @@ use Rattle.live_heap.specs.Heaps.{HeapFields}
 use Rattle.live_heap.specs.Passes.{seen}
 use Rattle.trace_text.specs.declared.trace.Op.{Op}
 use Rattle.trace_text.specs.declared.trace.Op.TheVariants as op
+use Rattle.lane_outcomes.specs.Deeds.{register_of}
 use Rattle.lane_outcomes.specs.declared.registers.HeldBlock.{HeldBlock}
 use Rattle.lane_outcomes.specs.declared.outcome.Outcome.{Outcome}
 use Rattle.lane_outcomes.specs.declared.outcome.Outcome.TheVariants as outcome
@@ -18,7 +19,7 @@ use Rattle.lane_outcomes.proofs.LaterLemmas.{cached-row-later}
 use Rattle.block_cache.specs.declared.cache.Cache.{Cache}
 use Rattle.block_cache.specs.Whole.{RestsAt}
 use Rattle.lane_engine.specs.Caches.{IsCachedCall}
-use Rattle.trace_lane.specs.Made.{AllMade, MadeFor, register_of}
+use Rattle.trace_lane.specs.Made.{AllMade, MadeFor}
 use Rattle.trace_lane.proofs.AnswerLemmas.{HasMovedOn}
 use Rattle.trace_lane.proofs.CallerLemmas.{moved-none, moved-then}
 use Rattle.lane_engine.proofs.KeptLemmas.{cached-laws}
@@ -26,6 +27,7 @@ use Rattle.lane_engine.proofs.LeadsLemmas.{leads-of}
 use Rattle.trace_lane.proofs.EachCall.{all-found, all-takes, all-wrote}
 use Rattle.trace_lane.proofs.HoldsLemmas.{op-holds}
 use Rattle.trace_lane.proofs.WalkLemmas.{between-next}
+use Rattle.trace_lane.proofs.TurnLemmas.{cached-answered}
 use Rattle.lane_runner.proofs.CallLemmas.{caller_in, plain}
 use Rattle.lane_runner.proofs.GivenLemmas.{freed, given, resized}
 use Rattle.lane_runner.proofs.Places.{places_in}
@@ -151,7 +153,8 @@ all-walk h (operation ∷ operations) (result ∷ results) c d base as_many few 
     let between : IsBetween h t next = record {
       rests = rest_t.0;
       plain =
-          between-next h.layout (caller_in c) (caller_in t) base operation result next.answered gone.piece st.plain gone.added gone.spent gone.answered
+          between-next h.layout (caller_in c) (caller_in t) base operation result next.answered gone.piece st.plain gone.added gone.spent
+          (cached-answered (setting_at h c t) depth (stands_at c base) operation result gone.piece gone.row st.plain.answered)
           (holds-plain h t next.registers holds);
       holds = holds;
     } in

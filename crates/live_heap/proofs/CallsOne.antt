@@ -176,26 +176,26 @@ put-ends shelf place need o x =
       | inr lost ↦ (reply.Full x.value, put-lost shelf place need o x lost)
     ]
 
-take-won :
+pub take-won :
     (shelf place : ℕ) (need : Need) (o : Continuation) (x : Find) → x.won ≡ true
     → next_of (point.Large (large.TakeBlock shelf place need) o) x ≡ next.End (reply.Got place need)
 unfolding next_of
 take-won shelf place need o x won =
     ap (λ w. leave_large (if w then large_exit.Got place need else large_exit.Missed (shelf_word (lies.Block place need)) x.value) o) won
 
-take-lost :
+pub take-lost :
     (shelf place : ℕ) (need : Need) (o : Continuation) (x : Find) → x.won ≡ false
     → next_of (point.Large (large.TakeBlock shelf place need) o) x ≡ next.End (reply.Missed (shelf_word (lies.Block place need)) x.value)
 unfolding next_of
 take-lost shelf place need o x lost =
     ap (λ w. leave_large (if w then large_exit.Got place need else large_exit.Missed (shelf_word (lies.Block place need)) x.value) o) lost
 
-none-won :
+pub none-won :
     (shelf : ℕ) (o : Continuation) (x : Find) → x.won ≡ true → next_of (point.Large (large.ConfirmNothing shelf) o) x ≡ next.End reply.Empty
 unfolding next_of
 none-won shelf o x won = ap (λ w. leave_large (if w then large_exit.NothingThere else large_exit.Missed (shelf_word lies.Nothing) x.value) o) won
 
-none-lost :
+pub none-lost :
     (shelf : ℕ) (o : Continuation) (x : Find) → x.won ≡ false
     → next_of (point.Large (large.ConfirmNothing shelf) o) x ≡ next.End (reply.Missed (shelf_word lies.Nothing) x.value)
 unfolding next_of

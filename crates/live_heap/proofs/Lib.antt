@@ -50,6 +50,7 @@ pub mod RefusedPoints
 pub mod RefusedSteps
 mod Resting
 pub mod Seats
+pub mod ShelfSteps
 pub mod ShelvesKept
 pub mod Shows
 mod Slicing

@@ -1,13 +1,16 @@
 -- A call that goes on, and one that was made so far without an errand.
 use Rattle.std.specs.Prelude.{ℕ, Option, None, Some, ◌≡◌, ◌<◌, ◌≤◌, ◌+◌, ◌*◌, ◌-◌, ◌^◌}
+use Rattle.heap_geometry.specs.declared.geometry.Geometry.{Geometry}
 use Rattle.heap_geometry.specs.declared.limits.TheConstants.{CALL_STEPS}
 use Rattle.atomic_region.specs.declared.shared.Seat.{Seat}
 use Rattle.word_table.specs.declared.action.Found.{Found as Find}
+use Rattle.step_parts.specs.declared.large.point.LargePoint.{LargePoint}
 use Rattle.step_parts.specs.declared.superblock.point.BlockPoint.{BlockPoint}
 use Rattle.step_parts.specs.declared.superblock.point.BlockPoint.TheVariants as block
 use Rattle.step_parts.specs.declared.superblock.exit.BlockExit.{BlockExit}
 use Rattle.pool_model.specs.Histories.{Begins}
 use Rattle.errand_steps.specs.declared.continuation.Continuation.{Continuation}
+use Rattle.errand_steps.specs.declared.continuation.Continuation.TheVariants.{Nothing}
 use Rattle.errand_steps.specs.declared.next.Next.TheVariants.{End}
 use Rattle.errand_steps.specs.declared.point.Point.TheVariants as point
 use Rattle.errand_steps.specs.declared.told.Ending.{Ending}
@@ -26,6 +29,7 @@ use Rattle.live_heap.specs.declared.view.View.{View}
 use Rattle.live_heap.specs.Answers.{alloc_answer_in, free_answer_in, reply_in, reply_of}
 use Rattle.live_heap.specs.Calls.{GoesOn, IsCalling, IsInterrupted, tries_of}
 use Rattle.live_heap.specs.Passes.{IsOf, seen, view}
+use Rattle.live_heap.specs.Pieces.{IsReady}
 use Rattle.live_heap.specs.Sights.{TakesStep, found_in}
 
 -- a pass as it would stand in a call that it has begun
@@ -107,3 +111,14 @@ pub record Rejoins (h : HeapFields) (start : Pass) (tries : ℕ) (x : Find) (q :
 -- a call that leaves a superblock by this exit ends so, wherever it goes on
 abbrev pub EndsBy : Option BlockExit → Ending Block → Type 0
 EndsBy exit ending = (e : BlockExit) × (exit ≡ Some e) × ((o : Continuation) → leave_block e o ≡ End (reply_of ending))
+
+-- an errand that stands at a point of a shelf, and a pass whose errand would
+abbrev pub at_shelf : ErrandFields → LargePoint → ErrandFields
+at_shelf e p = record e { point = point.Large p Nothing }
+
+abbrev pub stands_on : Pass → LargePoint → Pass
+stands_on q p = record { seat = q.seat; errand = at_shelf q.errand p; out = q.out }
+
+-- the step at this point is the first to use no piece of the arena
+abbrev pub OpensNone : Geometry → LargePoint → Type 0
+OpensNone g p = (v : View) → IsReady g (point.Large p Nothing) v

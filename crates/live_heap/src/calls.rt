@@ -24,9 +24,14 @@ use crate::block::Block;
 use crate::heap::Heap;
 use crate::pass::Pass;
 use crate::shelves::ShelfRule;
-use errand_steps::reply::Begun;
-use errand_steps::told::{Ending, Stepped};
+use errand_steps::reply::{Begun, Progress, Reply};
+use errand_steps::told::Ending;
 use heap_geometry::need::{Need, class_of};
+use packed_words::shelf::ShelfWord;
+use std::marker::Brand;
+use step_parts::large::point::{LargePoint, plan_large, settle_large};
+use word_table::action::Action;
+use word_table::name::WordName;
 
 impl<R: ShelfRule> Heap<R> {
     /// An allocation of so many usable words. It loses fewer exchanges, and clears fewer empty
@@ -155,11 +160,29 @@ impl<R: ShelfRule> Heap<R> {
         ensures put { IfOk result (λ _. HasCalled pass.old (put block.place block.need shelf) 0 reply.Put pass.new) }
         ensures full { IfErr result (λ full. PutTellsFull pass.old block shelf full pass.new) }
     {
-        self.begin_put(pass, block, shelf);
-        match self.step(pass) {
-            Stepped::Done(Ending::Put) => Ok(()),
-            Stepped::Done(Ending::Full { block, found }) => Err(Full { block, found }),
-            _ => unreachable!(),
+        let at = LargePoint::PutBlock {
+            shelf,
+            place: block.place,
+            need: block.need,
+        };
+        let lies = ShelfWord::Block {
+            place: block.place,
+            need: block.need,
+        };
+        let action = Action::Cas(
+            WordName::Shelf(shelf),
+            ShelfWord::Nothing.pack(),
+            lies.pack(),
+        );
+        let found = self.step_on_shelf::<Brand>(&mut pass.seat, &pass.errand, action, &at);
+        pass.errand.count(action, found);
+        if found.won {
+            Ok(())
+        } else {
+            Err(Full {
+                block,
+                found: found.value,
+            })
         }
     }
 
@@ -172,13 +195,27 @@ impl<R: ShelfRule> Heap<R> {
         ensures tells { TakeTells pass.old shelf result pass.new }
         ensures words { (block : Block) → result ≡ Taken.Got block → MayLieOn R.allows (seen pass.new) pass.new.errand.caller block.place shelf }
     {
-        self.begin_take(pass, shelf);
-        let _ = self.step(pass);
-        match self.step(pass) {
-            Stepped::Done(Ending::Got(block)) => Taken::Got(block),
-            Stepped::Done(Ending::Empty) => Taken::Empty,
-            Stepped::Done(Ending::Missed { expected, found }) => Taken::Missed { expected, found },
-            _ => unreachable!(),
+        let mut at = LargePoint::LoadShelf { shelf };
+        let load = Action::Load(WordName::Shelf(shelf));
+        let first = self.step_on_shelf::<Brand>(&mut pass.seat, &pass.errand, load, &at);
+        let _ = settle_large(&mut at, first);
+        let action = plan_large(&at);
+        let found = self.step_on_shelf::<Brand>(&mut pass.seat, &pass.errand, action, &at);
+        if found.won {
+            pass.errand.count(action, found);
+            match at {
+                LargePoint::TakeBlock { place, need, .. } => Taken::Got(Block { place, need }),
+                _ => Taken::Empty,
+            }
+        } else {
+            pass.errand.begin_take(shelf);
+            let _ = pass.errand.go_on(load, first);
+            match pass.errand.go_on(action, found) {
+                Progress::Done(Reply::Missed { expected, found }) => {
+                    Taken::Missed { expected, found }
+                }
+                _ => unreachable!(),
+            }
         }
     }
 

@@ -29,6 +29,7 @@ pub mod placement;
 pub mod plain;
 mod plays;
 pub mod shelves;
+mod shelving;
 mod slices;
 mod small;
 mod steps;

@@ -20,6 +20,7 @@ use std::marker::Brand;
 impl<R: ShelfRule> Heap<R> {
     /// Reads words of the pass's block, from word `first` on, into a slice, as many as it has, in their order. Each is what
     /// the block's owners last wrote there; a word that none has written is some number.
+    #[inline(always)]
     pub fn read_slice(&self, pass: &mut Pass, block: &Block, first: u32, into: &mut [u64])
         requires of { IsOf self.now pass.old }
         requires idle { IsIdle pass.old.errand }
@@ -42,6 +43,7 @@ impl<R: ShelfRule> Heap<R> {
     }
 
     /// Writes words of the pass's block, from word `first` on, with those of a slice, in their order.
+    #[inline(always)]
     pub fn write_slice(&self, pass: &mut Pass, block: &Block, first: u32, from: &[u64])
         requires of { IsOf self.now pass.old }
         requires idle { IsIdle pass.old.errand }
@@ -75,6 +77,7 @@ impl<R: ShelfRule> Heap<R> {
 }
 
 /// Writes a slice over words of another one, from one on.
+#[inline(always)]
 fn write_over(words: &mut [u64], first: usize, from: &[u64])
     requires { first + length from.now ≤ length words.old }
     ensures { words.new ≡ take first words.old ++ (from.now ++ drop (first + length from.now) words.old) }

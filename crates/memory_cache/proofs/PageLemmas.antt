@@ -1,8 +1,8 @@
 -- The words of a page, cut into pieces and joined again.
-use Rattle.std.proofs.Common.{ℕ, ◌≡◌, ◌≢◌, ◌+◌, ◌-◌, ◌*◌, ◌/◌, ◌<◌, ◌≤◌, List, [], ◌∷◌, ◌++◌, None, length, take, drop, refl, sym, ap, subst, ◌∙◌, arith, inl, inr, slice_index_or, length-append, length-drop, length-take}
+use Rattle.std.proofs.Common.{ℕ, ◌≡◌, ◌≢◌, ◌+◌, ◌-◌, ◌*◌, ◌/◌, ◌%◌, ◌<◌, ◌≤◌, List, [], ◌∷◌, ◌++◌, None, length, take, drop, refl, sym, ap, subst, ◌∙◌, arith, inl, inr, slice_index_or, length-append, length-drop, length-take}
 use Rattle.std.proofs.Math.Nat.{mul-div_cancel}
 use Rattle.std.proofs.lemmas.Bool.{cases_eq, cases_lt}
-use Rattle.std.proofs.lemmas.Nat.{div-add-mod', mul-le}
+use Rattle.std.proofs.lemmas.Nat.{div-add-mod', div-mul-add, mod_below, mul-le}
 use Rattle.std.proofs.lemmas.List.{get_or-append_right, get_or-drop, get_or-take, get_or_append_left, get_or_past, get_or_push, length-take-le, length_push, take-take, take_at}
 use Rattle.heap_geometry.specs.declared.need.Need.{Need}
 use Rattle.heap_geometry.specs.Need.{usable_words}
@@ -25,6 +25,21 @@ pub within-words : (number size words : ℕ) → number < words / size → numbe
 within-words number size words below =
     let most : (number + 1) * size ≤ words / size * size = mul-le (number + 1) size (words / size) size (omega arith) (omega arith) in
     omega (arith, one-more number size, div-add-mod' words size)
+
+-- the inverse of a size tells how often it stands in few words
+pub tells-number :
+    (number size inverse : ℕ) → 0 < size → inverse ≡ 4194304 / size + 1 → number * size < 2048 → number * size * inverse / 4194304 ≡ number
+tells-number number size inverse some is few =
+    let q : ℕ = 4194304 / size in
+    let r : ℕ = 4194304 % size in
+    let more : ℕ = size - r in
+    let below : r < size = mod_below 4194304 size some in
+    let all : q * size + r ≡ 4194304 = div-add-mod' 4194304 size in
+    let once : (q + 1) * size ≡ 4194304 + more = omega (arith, one-more q size) in
+    let spread : number * size * inverse ≡ number * ((q + 1) * size) = rw is (grind arith) in
+    let parts : number * (4194304 + more) ≡ number * 4194304 + number * more = grind arith in
+    let least : number * more ≤ number * size = mul-le number more number size (omega arith) (omega arith) in
+    ap (λ n. n / 4194304) (spread ∙ ap (λ n. number * n) once ∙ parts) ∙ div-mul-add number 4194304 (number * more) (omega arith)
 
 -- a page has at most 2047 pieces
 pub pieces-few : (size place : ℕ) (need : Need) → IsPageFor size place need → usable_words need / size < 2048

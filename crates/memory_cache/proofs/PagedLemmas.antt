@@ -1,5 +1,5 @@
 -- A paged cache, through what is done with its pages.
-use Rattle.std.proofs.Common.{ℕ, ◌≡◌, ◌≢◌, ◌+◌, ◌-◌, ◌*◌, ◌/◌, ◌%◌, ◌^◌, ◌<◌, ◌≤◌, List, [], Option, Some, None, Result, Ok, length, slice_index_or, refl, sym, ap, subst, ◌∙◌, arith, inl, inr}
+use Rattle.std.proofs.Common.{ℕ, ◌≡◌, ◌≢◌, ◌+◌, ◌-◌, ◌*◌, ◌/◌, ◌%◌, ◌^◌, ◌<◌, ◌≤◌, List, [], Option, Some, None, Result, Ok, false, true, ◌⊎◌, length, slice_index_or, refl, sym, ap, subst, ◌∙◌, arith, inl, inr}
 use Rattle.std.specs.Prelude.{All, IfOk, slice_set}
 use Rattle.std.specs.Result.{IfErr}
 use Rattle.std.specs.Vec.{with_item}
@@ -20,14 +20,24 @@ use Rattle.memory_cache.specs.declared.page.Page.{Page}
 use Rattle.memory_cache.specs.declared.page.Slot.TheVariants.{Out}
 use Rattle.memory_cache.specs.declared.paged.PagedCache.{PagedCache}
 use Rattle.memory_cache.specs.declared.piece.Piece.{Piece}
-use Rattle.memory_cache.specs.Asking.{LiesElsewhere}
-use Rattle.memory_cache.specs.Caches.{IsCache, IsHeld, kept_in}
-use Rattle.memory_cache.specs.Paged.{CameOf, HasAt, HasCut, HasPut, HasSameOut, HasSamePages, HasTold, IsOfPage, IsOut, IsPageOf, IsPaged, PushesAt, page_at}
-use Rattle.memory_cache.specs.Pages.{AllHome, AreHere, IsOutAt, IsPageFor, IsPiece, IsSamePage, count_of, first_of, slot_at}
+use Rattle.memory_cache.specs.Asking.{HasSettled, LiesElsewhere, SendsHome}
+use Rattle.memory_cache.specs.Caches.{HasKept, HasRoom, IsCache, IsHeld, KeepsMagazines, kept_in}
+use Rattle.memory_cache.specs.Paged.{CameOf, GoesBehind, HasAt, HasCut, HasGiven, HasNewPage, HasPut, HasSameOut, HasSamePages, HasTakenIn, HasTold, IsOfPage, IsOut, IsOutBy, IsPageOf, IsPaged, IsReadyAt, PopsAt, PushesAt, SamePages, TakesBack, page_at}
+use Rattle.memory_cache.specs.Pages.{AllHome, AreHere, IsNear, IsOutAt, IsPageFor, IsPiece, IsSamePage, count_of, first_of, slot_at}
 use Rattle.memory_cache.specs.Sizes.{page_words, piece_words}
 use Rattle.memory_cache.proofs.SettledLemmas.{pass-of}
-use Rattle.memory_cache.proofs.TableLemmas.{GoesOn, SameTable, at-is, at-keeps, at-only, at-out, at-set, elsewhere-back, elsewhere-keeps, elsewhere-on, elsewhere-only, for-same, out-on, out-same, page-back, page-on, page-popped, page-pushed, page-read, page-refl, page-same, pages-is, piece-popped, pops-fresh, pops-keeps, pops-only, pops-out, pushes-away, pushes-keeps, pushes-only, put-then, some-on, table-back, table-on, table-then, within-table}
+use Rattle.memory_cache.proofs.TableLemmas.{GoesOn, SameTable, at-is, at-keeps, at-only, at-out, at-set, elsewhere-back, elsewhere-keeps, elsewhere-on, elsewhere-only, for-same, out-on, out-same, page-back, page-on, page-popped, page-pushed, page-read, page-refl, page-same, pages-is, piece-popped, pops-fresh, pops-keeps, pops-only, pops-out, pushes-away, pushes-keeps, pushes-only, put-set, put-then, some-on, table-back, table-on, table-then, within-table}
 use Rattle.memory_cache.proofs.TakenPages.{done-with, nothing-taken, taken-one}
+
+-- where no page is, none is
+not-some : (o : Option Page) → ((p : Page) → o ≡ Some p → ⊥) → o ≡ None
+not-some None none = refl
+not-some (Some p) none = absurd (none p refl)
+
+none-back : (o p : Option Page) → SamePages o p → p ≡ None → o ≡ None
+none-back None p same none = refl
+none-back (Some o) None same none = absurd same
+none-back (Some o) (Some p) same none = absurd (none-some p (sym none))
 
 -- the first word of a piece says in which place of the table its page is, and is odd
 module _ (size place : ℕ) (need : Need) (k n : ℕ) (for_it : IsPageFor size place need) (there : place ≡ 2048 * k) (below : n < usable_words need / size) where
@@ -200,6 +210,18 @@ told-after h c d e words tries told s t =
       keeps = λ first size o. t.keeps first size (out-on c d s.pages first size o);
       only = λ first size o away. out-on d c (table-back c d s.pages) first size (t.only first size o away);
       cause = subst (λ (m : MemoryCache). IfOk told (λ a. CameOf h m.pass (page_words words) tries a e.cache.pass)) s.cache t.cause;
+    }
+
+pub new-after :
+    (h : HeapFields) (c d e : PagedCache) (words tries first : ℕ) → HasSamePages c d → HasNewPage h d words tries first e → HasNewPage h c words tries first e
+new-after h c d e words tries first s new =
+    record {
+      memory = new.memory;
+      given = subst (λ (q : MemoryCache). HasGiven h q (page_words words) tries new.memory e.cache) s.cache new.given;
+      page = new.page;
+      none = none-back (page_at c (first / 2048)) (page_at d (first / 2048)) (s.pages (first / 2048)) new.none;
+      now = new.now;
+      of = new.of;
     }
 
 -- nothing was given
@@ -414,6 +436,18 @@ module _ (h : HeapFields) (c b d : PagedCache) (memory : Memory) (x : Piece) (is
         cause = tt;
       }
 
+  -- it is of a new page
+  pub new-page : (words tries : ℕ) → HasGiven h c.cache (page_words words) tries memory b.cache → HasNewPage h c words tries x.first d
+  new-page words tries given =
+      record {
+        memory = memory;
+        given = subst (λ (q : MemoryCache). HasGiven h c.cache (page_words words) tries memory q) (sym changes.cache) given;
+        page = now.0;
+        none = ap (page_at c) first-key ∙ not-some (page_at c key) nowhere;
+        now = ap (page_at d) first-key ∙ now.1;
+        of = now-of;
+      }
+
 -- a page whose pieces are all home is gone, and its block with it
 module _ (h : HeapFields) (c d : PagedCache) (k : ℕ) (p : Page) (m : Memory) (is : IsPaged h c) (at : page_at c k ≡ Some p) (home : AllHome p)
     (block : m.block.place ≡ p.place) (cache : IsCache h d.cache)
@@ -471,13 +505,6 @@ out-there h c k p is at n within out =
       },
     )
 
--- a piece came home: it alone isn't out any more
-pub record TakesBack (h : HeapFields) (c : PagedCache) (gone : ℕ) (d : PagedCache) : Type 0 where
-  pub paged : IsPaged h d
-  pub caller : d.cache.pass.errand.caller ≡ c.cache.pass.errand.caller
-  pub keeps : (first size : ℕ) → IsOut c first size → first ≢ gone → IsOut d first size
-  pub only : (first size : ℕ) → IsOut d first size → IsOut c first size × (first ≢ gone)
-
 pub takes-then : (h : HeapFields) (c : PagedCache) (gone : ℕ) (d e : PagedCache) → TakesBack h c gone d → HasSameOut h d e → TakesBack h c gone e
 takes-then h c gone d e t s =
     record {
@@ -514,10 +541,22 @@ takes-back h c d before after x is piece o at came cache items =
       );
     }
 
--- where a caller has a piece, its page is in the table, and has few pieces
-pub out-page :
-    (h : HeapFields) (c : PagedCache) (x : Piece) → IsPaged h c → (o : IsOut c x.first x.size) → count_of o.page < 2 ^ 16
-out-page h c x is o = page-few h c (x.first / 2048) o.page (is.pages (x.first / 2048) o.page o.there)
+-- a piece that is out by its number is out
+pub out-by : (h : HeapFields) (c : PagedCache) (number first size : ℕ) → IsPaged h c → IsOutBy c number first size → IsOut c first size
+out-by h c number first size is o =
+    let page = is.pages (first / 2048) o.page o.there in
+    record {
+      page = o.page;
+      there = o.there;
+      out = record { some = page.page.some; number = number; within = o.out.within; out = o.out.out; there = o.out.there };
+      sized = o.sized;
+    }
+
+-- a page in the table has its pieces near
+pub page-near : (h : HeapFields) (c : PagedCache) (k : ℕ) (p : Page) → IsPaged h c → page_at c k ≡ Some p → IsNear p
+page-near h c k p is at =
+    let w = is.pages k p at in
+    record { some = w.page.some; narrow = λ number within. w.for.narrow number (within-page h c k p w number within) }
 
 -- with no page in the table nothing is held
 pub nothing-held :
@@ -563,6 +602,66 @@ sent-home h c d q k p m result is at home block on back cache keeps only done go
     (back other o.0, done-with result (other.block.place ≢ m.block.place) done o.1))
     gone others caller
 
+-- the same cache is behind, and what is in one place of the table is of the same block
+pub record IsSameBehind (c : PagedCache) (k : ℕ) (d : PagedCache) : Type 0 where
+  pub cache : d.cache ≡ c.cache
+  pub page : (q : Page) → page_at d k ≡ Some q → (p : Page) × (page_at c k ≡ Some p) × (q.place ≡ p.place) × (q.need ≡ p.need)
+
+pub same-behind : (c d : PagedCache) (k : ℕ) → HasSamePages c d → IsSameBehind c k d
+same-behind c d k s =
+    record {
+      cache = s.cache;
+      page = λ q at. let r = table-on d c (table-back c d s.pages) k q at in (r.0, r.1, sym r.2.place, sym r.2.need);
+    }
+
+pub pushed-behind : (c d : PagedCache) (k : ℕ) (p q : Page) → d.cache ≡ c.cache → page_at c k ≡ Some p → page_at d k ≡ Some q → q.place ≡ p.place → q.need ≡ p.need → IsSameBehind c k d
+pushed-behind c d k p q cache there now place need =
+    record {
+      cache = cache;
+      page = λ r at.
+          let one : q ≡ r = same_Some q r (sym now ∙ at) in
+          (p, there, ap (λ (x : Page). x.place) (sym one) ∙ place, ap (λ (x : Page). x.need) (sym one) ∙ need);
+    }
+
+-- what was done behind, seen from before and after such changes
+pub behind-through :
+    (h : HeapFields) (c b d e : PagedCache) (k tries : ℕ) → IsSameBehind c k b → GoesBehind h b k tries d → HasSamePages d e → GoesBehind h c k tries e
+behind-through h c b d e k tries s g t =
+    let From : MemoryCache → MemoryCache → Type 0 = λ q r. HasSettled h q.pass tries false r.pass × KeepsMagazines q r in
+    elim g [
+      | inl same ↦ inl (t.cache ∙ same ∙ s.cache)
+      | inr more ↦
+          elim more [
+            | inl busy ↦ inr (inl (subst (λ (q : MemoryCache). From q e.cache) s.cache (subst (From b.cache) (sym t.cache) busy)))
+            | inr sent ↦
+                let p = s.page sent.page sent.there in
+                inr
+                (inr
+                (record {
+                  page = p.0;
+                  there = p.1;
+                  gone = none-back (page_at e k) (page_at d k) (table-back d e t.pages k) sent.gone;
+                  memory = sent.memory;
+                  of = (sent.of.0 ∙ p.2, sent.of.1 ∙ p.3);
+                  settled = sent.settled;
+                  has_settled = subst (λ (q : MemoryCache). HasSettled h q.pass tries true sent.settled.pass × KeepsMagazines q sent.settled) s.cache sent.has_settled;
+                  taken = subst (HasTakenIn h sent.settled sent.memory tries) (sym t.cache) sent.taken;
+                }))
+          ]
+    ]
+
+-- what the cache behind took back, in its own words
+pub takes-in :
+    (heap h : HeapFields) (c : MemoryCache) (memory : Memory) (tries : ℕ) (result : Result (Unit {0}) Memory) (d : MemoryCache) → heap ≡ h
+    → IfErr result (λ back. ⊥) → (HasRoom c memory.block.need → IfErr result (λ back. ⊥) × HasKept c memory d)
+    → ((¬ HasRoom c memory.block.need) → IfOk result (λ done. SendsHome heap c.pass memory tries d.pass) × KeepsMagazines c d) → HasTakenIn h c memory tries d
+takes-in heap h c memory tries result d at done kept sent =
+    subst (λ (x : HeapFields). HasTakenIn x c memory tries d) at
+    (record {
+      kept = λ room. (kept room).1;
+      sent = λ full. let s = sent full in (done-with result (SendsHome heap c.pass memory tries d.pass) done s.0, s.1);
+    })
+
 -- the same cache with its inner one gone on, and with hits
 abbrev pub with_cache : PagedCache → MemoryCache → PagedCache
 with_cache c q = record { cache = q; pages = c.pages; ready = c.ready; hits = c.hits; alloc = c.alloc }
@@ -581,6 +680,16 @@ told-served h c x d n words asked tries is put sized enough =
 -- the same cache with another page in one place of the table
 abbrev pub with_page : PagedCache → ℕ → Option Page → PagedCache
 with_page c k page = record { cache = c.cache; pages = with_item c.pages k page; ready = c.ready; hits = c.hits; alloc = c.alloc }
+
+pub popped-put :
+    (c : PagedCache) (x : Piece) (k size : ℕ) (before after : Option Page) → IsReadyAt c k size → before ≡ slice_index_or c.pages.items k before
+    → PopsAt before x after → HasPut c x (with_page c k after) × (x.size ≡ size)
+popped-put c x k size before after ready read came =
+    let there : page_at c k ≡ before = page-read c k before (within-table c.pages.items k ready.page ready.there) read in
+    let one : ready.page ≡ came.page = same_Some ready.page came.page (sym ready.there ∙ there ∙ came.there) in (
+      put-set c (with_page c k after) k before after x there came refl refl,
+      came.pops.size ∙ ap (λ (p : Page). p.size) (sym one) ∙ ready.sized,
+    )
 
 pub taken-in :
     (h : HeapFields) (c : PagedCache) (x : Piece) (before after : Option Page) → IsPaged h c → IsPiece h x → IsOut c x.first x.size

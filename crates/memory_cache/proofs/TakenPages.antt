@@ -29,6 +29,7 @@ use Rattle.block_cache.proofs.MagazineLemmas.{for-or-not, stack-few, top-here}
 use Rattle.memory_cache.specs.declared.cache.MemoryCache.{MemoryCache}
 use Rattle.memory_cache.specs.Asking.{TakeTells}
 use Rattle.memory_cache.specs.Caches.{HasFor, HasRoom, HasServed, IsCache, IsHeld, KeepsMagazines, LieApart, kept_in, magazine_in, stacks_in}
+use Rattle.memory_cache.specs.Paged.{HasGiven}
 use Rattle.memory_cache.specs.Pages.{IsPageFor}
 use Rattle.memory_cache.specs.Sizes.{page_words, piece_words}
 use Rattle.memory_cache.proofs.PageSizes.{page-for, unit-place}
@@ -131,6 +132,27 @@ tells-why heap h c q words asked tries result was at is large told other served 
     subst (λ (x : HeapFields). TakeTells x c.pass (page_words words) tries was q.pass) at
     (subst (λ n. TakeTells heap c.pass n tries was q.pass) is
     (subst (λ (a : AllocAnswer Memory). TakeTells heap c.pass asked tries a q.pass) told (asks none large).0))
+
+-- how it was given
+pub tells-given :
+    (heap h : HeapFields) (c q : MemoryCache) (words asked tries : ℕ) (m : Memory) (result : AllocAnswer Memory) → heap ≡ h → asked ≡ page_words words
+    → asked ≤ LARGE_MOST → result ≡ answer.Given m
+    → (HasFor c (need_of asked) → (memory : Memory) × (result ≡ answer.Given memory) × HasServed c asked memory q)
+    → ((¬ HasFor c (need_of asked)) → asked ≤ LARGE_MOST → TakeTells heap c.pass asked tries result q.pass × KeepsMagazines c q)
+    → HasGiven h c (page_words words) tries m q
+tells-given heap h c q words asked tries m result at is large told served asks =
+    subst (λ (x : HeapFields). HasGiven x c (page_words words) tries m q) at
+    (subst (λ n. HasGiven heap c n tries m q) is
+    (record {
+      served = λ has.
+          let s = served has in
+          let e = sym s.1 ∙ told in
+          let same : s.0 ≡ m = cc in
+          subst (λ (x : Memory). HasServed c asked x q) same s.2;
+      asked = λ none.
+          let a = asks none large in
+          (subst (λ (r : AllocAnswer Memory). TakeTells heap c.pass asked tries r q.pass) told a.0, a.1);
+    }))
 
 -- memory that was taken for a page
 pub may-cut :

@@ -1,18 +1,20 @@
 -- A paged cache in front of a heap.
-use Rattle.std.specs.Prelude.{ℕ, ◌≡◌, ◌≢◌, ◌≤◌, ◌*◌, ◌/◌, ◌%◌, Option, Some, None, Result, Ok, IfOk, slice_index, slice_index_or}
+use Rattle.std.specs.Prelude.{ℕ, ◌≡◌, ◌≢◌, ◌≤◌, ◌*◌, ◌/◌, ◌%◌, ◌⊎◌, true, false, Option, Some, None, Result, Ok, IfOk, slice_index, slice_index_or}
 use Rattle.std.specs.declared.alloc.AllocError.{AllocError}
+use Rattle.heap_geometry.specs.Need.{need_of}
 use Rattle.live_heap.specs.declared.answers.AllocAnswer.{AllocAnswer}
 use Rattle.live_heap.specs.declared.answers.AllocAnswer.TheVariants as alloc_answer
 use Rattle.live_heap.specs.Heaps.{HeapFields}
 use Rattle.live_heap.specs.declared.pass.Pass.{Pass}
 use Rattle.live_heap.specs.declared.plain.Memory.{Memory}
+use Rattle.memory_cache.specs.declared.cache.MemoryCache.{MemoryCache}
 use Rattle.memory_cache.specs.declared.page.Page.{Page}
 use Rattle.memory_cache.specs.declared.page.Slot.TheVariants.{Out}
 use Rattle.memory_cache.specs.declared.paged.PagedCache.{PagedCache}
 use Rattle.memory_cache.specs.declared.piece.Piece.{Piece}
-use Rattle.memory_cache.specs.Asking.{TakeTells}
-use Rattle.memory_cache.specs.Caches.{IsCache, IsHeld}
-use Rattle.memory_cache.specs.Pages.{IsCut, IsOutAt, IsPage, IsPageFor, IsPiece, IsSamePage, Pops, Pushes, slot_at}
+use Rattle.memory_cache.specs.Asking.{HasSettled, SendsHome, TakeTells}
+use Rattle.memory_cache.specs.Caches.{HasFor, HasKept, HasRoom, HasServed, IsCache, IsHeld, KeepsMagazines}
+use Rattle.memory_cache.specs.Pages.{IsCut, IsOutAs, IsOutAt, IsPage, IsPageFor, IsPiece, IsSamePage, Pops, Pushes, slot_at}
 use Rattle.memory_cache.specs.Sizes.{page_words, piece_words, size_number}
 
 -- the page whose place in the table is the k-th
@@ -45,6 +47,13 @@ pub record IsOut (c : PagedCache) (first size : ℕ) : Type 0 where
   pub out : IsOutAt page first
   pub sized : page.size ≡ size
 
+-- the same, and the piece has this number in its page
+pub record IsOutBy (c : PagedCache) (number first size : ℕ) : Type 0 where
+  pub page : Page
+  pub there : page_at c (first / 2048) ≡ Some page
+  pub out : IsOutAs page number first
+  pub sized : page.size ≡ size
+
 -- all but the ways to find what is home is the same
 abbrev pub SamePages : Option Page → Option Page → Type 0
 SamePages None None = Unit {0}
@@ -59,12 +68,16 @@ pub record HasSamePages (c d : PagedCache) : Type 0 where
 abbrev pub ready_for : PagedCache → ℕ → ℕ
 ready_for c size = slice_index c.ready (size_number size)
 
--- such a page is there, and the first piece of its chain is home
-pub record HasPieceReady (c : PagedCache) (size : ℕ) : Type 0 where
+-- the k-th page has pieces of this size, and the first of its chain is home
+pub record IsReadyAt (c : PagedCache) (k size : ℕ) : Type 0 where
   pub page : Page
-  pub there : page_at c (ready_for c size) ≡ Some page
+  pub there : page_at c k ≡ Some page
   pub sized : page.size ≡ size
   pub home : slot_at page page.head ≢ Out
+
+-- the page that is ready with pieces of this size is there, and has one
+abbrev pub HasPieceReady : PagedCache → ℕ → Type 0
+HasPieceReady c size = IsReadyAt c (ready_for c size) size
 
 -- in the k-th place of the table is this page now, or none, and nothing else has changed but ways to find what is home
 pub record HasAt (c : PagedCache) (k : ℕ) (page : Option Page) (d : PagedCache) : Type 0 where
@@ -111,6 +124,48 @@ pub record HasSameOut (h : HeapFields) (c d : PagedCache) : Type 0 where
   pub caller : d.cache.pass.errand.caller ≡ c.cache.pass.errand.caller
   pub keeps : (first size : ℕ) → IsOut c first size → IsOut d first size
   pub only : (first size : ℕ) → IsOut d first size → IsOut c first size
+
+-- a piece came home: it alone isn't out any more
+pub record TakesBack (h : HeapFields) (c : PagedCache) (gone : ℕ) (d : PagedCache) : Type 0 where
+  pub paged : IsPaged h d
+  pub caller : d.cache.pass.errand.caller ≡ c.cache.pass.errand.caller
+  pub keeps : (first size : ℕ) → IsOut c first size → first ≢ gone → IsOut d first size
+  pub only : (first size : ℕ) → IsOut d first size → IsOut c first size × (first ≢ gone)
+
+-- the cache behind gave this memory: a magazine that had some; else the heap was asked for it
+pub record HasGiven (h : HeapFields) (c : MemoryCache) (words tries : ℕ) (memory : Memory) (d : MemoryCache) : Type 0 where
+  pub served : HasFor c (need_of words) → HasServed c words memory d
+  pub asked : (¬ HasFor c (need_of words)) → TakeTells h c.pass words tries (alloc_answer.Given memory) d.pass × KeepsMagazines c d
+
+-- the piece from this word on is of a page that is new, in whose place there was none, of memory that the cache behind gave for it
+pub record HasNewPage (h : HeapFields) (c : PagedCache) (words tries first : ℕ) (d : PagedCache) : Type 0 where
+  pub memory : Memory
+  pub given : HasGiven h c.cache (page_words words) tries memory d.cache
+  pub page : Page
+  pub none : page_at c (first / 2048) ≡ None
+  pub now : page_at d (first / 2048) ≡ Some page
+  pub of : IsOfPage memory page
+
+-- the cache behind took this memory back: onto a magazine that had room; else it went home, and its block was freed
+pub record HasTakenIn (h : HeapFields) (c : MemoryCache) (memory : Memory) (tries : ℕ) (d : MemoryCache) : Type 0 where
+  pub kept : HasRoom c memory.block.need → HasKept c memory d
+  pub sent : (¬ HasRoom c memory.block.need) → SendsHome h c.pass memory tries d.pass × KeepsMagazines c d
+
+-- the page in the k-th place is gone: once no call was under way, the cache behind took its block's memory back
+pub record HasSentPage (h : HeapFields) (c : PagedCache) (k tries : ℕ) (d : PagedCache) : Type 0 where
+  pub page : Page
+  pub there : page_at c k ≡ Some page
+  pub gone : page_at d k ≡ None
+  pub memory : Memory
+  pub of : IsOfPage memory page
+  pub settled : MemoryCache
+  pub has_settled : HasSettled h c.cache.pass tries true settled.pass × KeepsMagazines c.cache settled
+  pub taken : HasTakenIn h settled memory tries d.cache
+
+-- what a piece that comes home to the k-th page does behind: nothing; or it goes on with the call under way, which doesn't end; or the page is gone
+abbrev pub GoesBehind : HeapFields → PagedCache → ℕ → ℕ → PagedCache → Type 0
+GoesBehind h c k tries d =
+    (d.cache ≡ c.cache) ⊎ ((HasSettled h c.cache.pass tries false d.cache.pass × KeepsMagazines c.cache d.cache) ⊎ HasSentPage h c k tries d)
 
 -- what was given begins at another word than this
 abbrev pub LiesElsewhere : Result (AllocAnswer Piece) AllocError → ℕ → Type 0

@@ -66,6 +66,17 @@ pub record IsOutAt (p : Page) (first : ℕ) : Type 0 where
   pub out : slot_at p number ≡ Out
   pub there : first ≡ first_of p number
 
+-- its pieces have words, and each begins within a unit
+pub record IsNear (p : Page) : Type 0 where
+  pub some : 0 < p.size
+  pub narrow : (number : ℕ) → number < count_of p → number * p.size + 1 < 2048
+
+-- the piece with this number, whose first word this is, is out
+pub record IsOutAs (p : Page) (number first : ℕ) : Type 0 where
+  pub within : number < count_of p
+  pub out : slot_at p number ≡ Out
+  pub there : first ≡ first_of p number
+
 -- no piece is out
 abbrev pub AllHome : Page → Type 0
 AllHome p = (number : ℕ) → number < count_of p → slot_at p number ≢ Out

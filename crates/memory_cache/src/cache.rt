@@ -231,6 +231,7 @@ impl MemoryCache {
         ensures keeps { (other : Memory) → IsHeld self.old other → IsHeld self.new other }
         ensures only { (other : Memory) → IsHeld self.new other → IsHeld self.old other }
         ensures same { KeepsMagazines self.old self.new }
+        ensures tells { HasSettled heap.now self.old.pass tries result self.new.pass }
         ensures idle { result ≡ true → IsIdle self.new.pass.errand }
         ensures busy { result ≡ false → IsBusy self.new.pass.errand }
     {

@@ -1,13 +1,10 @@
 //! A page: the words of a block, cut into pieces of one size.
 
-ghost use Rattle.std.specs.Prelude.{ℕ, ◌≡◌, ◌<◌, ◌*◌, ◌+◌, ◌^◌, true, false, IfOk, IfSome, None, length};
-ghost use Rattle.std.specs.Result.{IfErr};
-ghost use Rattle.live_heap.specs.Heaps.{HeapFields};
-ghost use Rattle.memory_cache.specs.Pages.{AllHome, IsCut, IsOutAt, IsPage, IsPageFor, Pops, Pushes, count_of, slot_at};
-ghost use Rattle.memory_cache.specs.declared.page.Slot.TheVariants.{Out};
-ghost use Rattle.memory_cache.specs.Rooms.{IsRoomOf};
+ghost use Rattle.std.specs.Prelude.{◌≡◌, ◌+◌, ◌/◌};
+ghost use Rattle.memory_cache.specs.declared.page.TheConstants.{SCALE};
 
 use crate::piece::Piece;
+use heap_geometry::limits::UNIT_WORDS;
 use heap_geometry::need::Need;
 use live_heap::plain::Memory;
 use plain_words::PlainWords;
@@ -16,6 +13,10 @@ use std::mem::replace;
 
 /// Stands for no page.
 pub(crate) const NONE: u32 = u32::MAX;
+
+/// So many times the inverse of a size is a whole number that tells the pieces of a page apart.
+const SCALE: u32 = 1 << 22;
+
 /// Where a piece is: out with the caller, or home with the page, where it names the next slot whose piece is home.
 #[derive(Drop)]
 pub(crate) enum Slot {
@@ -30,6 +31,8 @@ pub(crate) struct Page {
     pub(crate) place: u32,
     pub(crate) need: Need,
     pub(crate) size: u32,
+    /// The scale by the size, and one more: a product with it finds a piece's number, where a division is slow.
+    pub(crate) inverse: u32,
     pub(crate) slots: Vec<Slot>,
     pub(crate) rest: PlainWords,
     /// The first slot of a chain of those whose pieces are home.
@@ -39,9 +42,17 @@ pub(crate) struct Page {
     /// The pages before and behind it in the ring of those of its size that have pieces.
     pub(crate) before: u32,
     pub(crate) behind: u32,
+    pub(crate) ghost scaled: { inverse ≡ SCALE / size + 1 },
 }
 
 impl Page {
+    ghost use Rattle.std.specs.Prelude.{ℕ, ◌≡◌, ◌≢◌, ◌<◌, ◌*◌, ◌+◌, ◌^◌, true, false, IfOk, IfSome, None, length};
+    ghost use Rattle.std.specs.Result.{IfErr};
+    ghost use Rattle.live_heap.specs.Heaps.{HeapFields};
+    ghost use Rattle.memory_cache.specs.Pages.{AllHome, IsCut, IsNear, IsOutAs, IsOutAt, IsPage, IsPageFor, Pops, Pushes, count_of, slot_at};
+    ghost use Rattle.memory_cache.specs.declared.page.Slot.TheVariants.{Out};
+    ghost use Rattle.memory_cache.specs.Rooms.{IsRoomOf};
+
     /// Memory, cut into as many pieces as it has room for, all of them home. It comes back where there is no memory for
     /// their slots.
     pub(crate) fn cut(alloc: Global, memory: Memory, size: u32) -> Result<Page, Memory>
@@ -67,6 +78,7 @@ impl Page {
             place,
             need,
             size,
+            inverse: SCALE / size + 1,
             slots,
             rest,
             head: 0,
@@ -80,6 +92,7 @@ impl Page {
     #[inline(always)]
     pub(crate) fn pop(&mut self) -> Option<Piece>
         ensures given { IfSome result (λ piece. Pops self.old piece self.new) }
+        ensures ready { IfSome result (λ _. slot_at self.old self.old.head ≢ Out) }
         ensures none { result ≡ None → (slot_at self.old self.old.head ≡ Out) × (self.new ≡ self.old) }
     {
         let number = self.head;
@@ -98,40 +111,15 @@ impl Page {
         })
     }
 
-    /// Takes a piece back that is out of this page.
+    /// Takes the piece with this number back, which is out.
     #[inline(always)]
-    pub(crate) fn push(&mut self, piece: Piece)
-        requires out { IsOutAt self.old piece.first }
-        requires few { length self.old.slots.items < 2 ^ 16 }
+    pub(crate) fn push(&mut self, number: u16, piece: Piece)
+        requires out { IsOutAs self.old number piece.first }
         ensures { Pushes self.old piece self.new }
     {
-        let number = self.number_of(piece.first);
         self.slots[number as usize] = Slot::Home(piece.words, self.head);
         self.head = number;
         self.home = self.home.saturating_add(1);
-    }
-
-    /// Whether the word is the first one of a piece of this page, and that piece is out.
-    #[inline(always)]
-    pub(crate) fn is_out(&self, first: usize) -> bool
-        ensures yes { result ≡ true → IsOutAt self.now first }
-        ensures no { IsOutAt self.now first → result ≡ true }
-    {
-        let start = self.first_of(0);
-        if first < start || self.size == 0 {
-            return false;
-        }
-        let number = (first - start) / self.size as usize;
-        if number * self.size as usize + start != first {
-            return false;
-        }
-        let Some(slot) = self.slots.get(number) else {
-            return false;
-        };
-        match slot {
-            Slot::Out => true,
-            Slot::Home(_, _) => false,
-        }
     }
 
     /// Whether each piece is home.
@@ -181,13 +169,52 @@ impl Page {
         self.place as usize + number as usize * self.size as usize + 1
     }
 
-    /// The number of the piece whose first word this is.
+    /// The number of the piece whose first word this is, and that is out.
     #[inline(always)]
-    fn number_of(&self, first: usize) -> u16
+    pub(crate) fn number_of(&self, first: usize) -> u16
+        requires near { IsNear self.now }
         requires out { IsOutAt self.now first }
-        requires few { length self.now.slots.items < 2 ^ 16 }
-        ensures { (first ≡ self.now.place + result * self.now.size + 1) × (result < length self.now.slots.items) × (slot_at self.now result ≡ Out) }
+        ensures { IsOutAs self.now result first }
     {
-        ((first - self.first_of(0)) / self.size as usize) as u16
+        self.pieces_in(first - self.first_of(0)) as u16
+    }
+
+    /// The number of the piece whose first word this is, where that is out.
+    #[inline(always)]
+    pub(crate) fn number_out(&self, first: usize) -> Option<u16>
+        requires near { IsNear self.now }
+        ensures out { IfSome result (λ number. IsOutAs self.now number first) }
+        ensures none { result ≡ None → ¬ IsOutAt self.now first }
+    {
+        let start = self.first_of(0);
+        if first < start || first - start >= UNIT_WORDS as usize {
+            return None;
+        }
+        let number = self.pieces_in(first - start);
+        if number * self.size as usize != first - start {
+            return None;
+        }
+        match self.slots.get(number)? {
+            Slot::Out => Some(number as u16),
+            Slot::Home(_, _) => None,
+        }
+    }
+
+    /// How many pieces so many words are, where they are whole ones.
+    #[inline(always)]
+    fn pieces_in(&self, words: usize) -> usize
+        requires near { words < 2048 }
+        ensures whole { (number : ℕ) → 0 < self.now.size → words ≡ number * self.now.size → result ≡ number }
+        ensures few { result < 2 ^ 32 }
+    {
+        words * self.inverse as usize / SCALE as usize
+    }
+
+    /// Whether the first piece of the chain is home, and another one with it.
+    #[inline(always)]
+    pub(crate) fn is_ready(&self) -> bool
+        ensures { result ≡ true → slot_at self.now self.now.head ≢ Out }
+    {
+        self.home > 1 && matches!(self.slots.get(self.head as usize), Some(Slot::Home(_, _)))
     }
 }

@@ -1,6 +1,6 @@
 //! A paged cache: pages of equal pieces in front of a memory cache.
 
-ghost use Rattle.std.specs.Prelude.{ℕ, ◌≡◌, ◌≢◌, ◌<◌, ◌≤◌, ◌%◌, ◌/◌, ◌^◌, ◌⊎◌, [], true, false, IfOk, IfSome, IsSome, Ok, Some, None, length};
+ghost use Rattle.std.specs.Prelude.{ℕ, ◌≡◌, ◌≢◌, ◌<◌, ◌≤◌, ◌+◌, ◌-◌, ◌%◌, ◌/◌, ◌^◌, ◌⊎◌, [], true, false, IfOk, IfSome, IsSome, Ok, Some, None, length, min};
 ghost use Rattle.std.specs.Result.{IfErr};
 ghost use Rattle.heap_geometry.specs.declared.limits.TheConstants.{LARGE_MOST};
 ghost use Rattle.errand_steps.specs.Begins.{IsBusy, IsIdle};
@@ -10,8 +10,8 @@ ghost use Rattle.live_heap.specs.Passes.{IsOf};
 ghost use Rattle.memory_cache.specs.declared.page.Page.{Page};
 ghost use Rattle.memory_cache.specs.declared.page.Slot.TheVariants.{Out};
 ghost use Rattle.memory_cache.specs.Caches.{kept_in};
-ghost use Rattle.memory_cache.specs.Paged.{CameOf, HasCut, HasPieceReady, HasPut, HasSameOut, HasSamePages, HasTold, IsOut, IsPaged, LiesElsewhere, PopsAt, PushesAt, SamePages, page_at};
-ghost use Rattle.memory_cache.specs.Pages.{IsOutAt, IsPageFor, IsPiece, slot_at};
+ghost use Rattle.memory_cache.specs.Paged.{CameOf, GoesBehind, HasCut, HasNewPage, HasPieceReady, HasPut, HasSameOut, HasSamePages, HasTold, IsOut, IsOutBy, IsPaged, IsReadyAt, LiesElsewhere, PopsAt, PushesAt, SamePages, TakesBack, page_at};
+ghost use Rattle.memory_cache.specs.Pages.{IsOutAs, IsPageFor, IsPiece, slot_at};
 ghost use Rattle.memory_cache.specs.Rooms.{IsRoomOf};
 ghost use Rattle.memory_cache.specs.Settled.{IsSettled};
 ghost use Rattle.memory_cache.specs.Sizes.{page_words, piece_words};
@@ -87,7 +87,70 @@ impl PagedCache {
         ensures only { (first size : ℕ) → IsOut self.new first size → LiesElsewhere result first → IsOut self.old first size }
         ensures served { HasPieceReady self.old (piece_words words)
             → ((piece : Piece) × (result ≡ Ok (AllocAnswer.Given piece))) × (self.new.cache ≡ self.old.cache) }
+        ensures new { (piece : Piece) → result ≡ Ok (AllocAnswer.Given piece) → (¬ HasPieceReady self.old (piece_words words))
+            → HasNewPage heap.now self.old words tries piece.first self.new }
         ensures cause { IfOk result (λ told. CameOf heap.now self.old.cache.pass (page_words words) tries told self.new.cache.pass) }
+        ensures hits { HasPieceReady self.old (piece_words words) → self.new.hits ≡ min (self.old.hits + 1) (2 ^ 64 - 1) }
+        ensures no_hit { (¬ HasPieceReady self.old (piece_words words)) → self.new.hits ≡ self.old.hits }
+    {
+        match self.take_ready(heap, words) {
+            Some(piece) => Ok(AllocAnswer::Given(piece)),
+            None => self.take_anew(heap, words, tries),
+        }
+    }
+
+    /// What `take` gives of a page that is ready with two pieces or more, for who has a way of its own where none is: then
+    /// nothing has changed.
+    #[inline(always)]
+    pub fn take_ready(&mut self, heap: &Heap, words: u32) -> Option<Piece>
+        requires paged { IsPaged heap.now self.old }
+        requires words { words ≤ LARGE_MOST }
+        ensures paged { IsPaged heap.now self.new }
+        ensures told { IfSome result (λ piece. (tries : ℕ) → HasTold heap.now self.old words tries (Ok (AllocAnswer.Given piece)) self.new) }
+        ensures ready { IfSome result (λ _. HasPieceReady self.old (piece_words words)) }
+        ensures cache { self.new.cache ≡ self.old.cache }
+        ensures hits { IfSome result (λ _. self.new.hits ≡ min (self.old.hits + 1) (2 ^ 64 - 1)) }
+        ensures none { result ≡ None → self.new ≡ self.old }
+    {
+        let size = piece_words(words);
+        let place = self.ready[size_number(size)] as usize;
+        if !self.is_ready(place, size) {
+            return None;
+        }
+        let piece = pop_from(&mut self.pages[place]);
+        self.hits = self.hits.saturating_add(1);
+        Some(piece)
+    }
+
+    /// Whether the page in this place of the table is ready with two pieces of this size, or more.
+    #[inline(always)]
+    fn is_ready(&self, place: usize, size: u32) -> bool
+        ensures { result ≡ true → IsReadyAt self.now place size }
+    {
+        match self.pages.get(place) {
+            Some(Some(page)) => page.size == size && page.is_ready(),
+            _ => false,
+        }
+    }
+
+    /// The same as `take`: where a page has its last piece, or a page is cut.
+    #[inline(never)]
+    fn take_anew(
+        &mut self,
+        heap: &Heap,
+        words: u32,
+        tries: u32,
+    ) -> Result<AllocAnswer<Piece>, AllocError>
+        requires paged { IsPaged heap.now self.old }
+        requires words { words ≤ LARGE_MOST }
+        requires tries { 0 < tries }
+        ensures told { HasTold heap.now self.old words tries result self.new }
+        ensures served { HasPieceReady self.old (piece_words words)
+            → ((piece : Piece) × (result ≡ Ok (AllocAnswer.Given piece))) × (self.new.cache ≡ self.old.cache) }
+        ensures new { (piece : Piece) → result ≡ Ok (AllocAnswer.Given piece) → (¬ HasPieceReady self.old (piece_words words))
+            → HasNewPage heap.now self.old words tries piece.first self.new }
+        ensures hits { HasPieceReady self.old (piece_words words) → self.new.hits ≡ min (self.old.hits + 1) (2 ^ 64 - 1) }
+        ensures no_hit { (¬ HasPieceReady self.old (piece_words words)) → self.new.hits ≡ self.old.hits }
     {
         let size = piece_words(words);
         match self.serve(size) {
@@ -100,10 +163,11 @@ impl PagedCache {
     }
 
     /// A piece of the page that is ready with pieces of this size.
-    #[inline(always)]
     fn serve(&mut self, size: u32) -> Option<Piece>
         ensures given { IfSome result (λ piece. HasPut self.old piece self.new × (piece.size ≡ size)) }
+        ensures ready { IfSome result (λ _. HasPieceReady self.old size) }
         ensures served { HasPieceReady self.old size → IsSome result }
+        ensures hits { self.new.hits ≡ self.old.hits }
         ensures none { result ≡ None → HasSamePages self.old self.new }
     {
         let number = size_number(size);
@@ -120,7 +184,6 @@ impl PagedCache {
     }
 
     /// A piece of a new page.
-    #[inline(never)]
     fn take_page(
         &mut self,
         heap: &Heap,
@@ -132,7 +195,9 @@ impl PagedCache {
         requires paged { IsPaged h self.old }
         requires words { words ≤ LARGE_MOST }
         requires tries { 0 < tries }
-        ensures { HasTold h self.old words tries result self.new }
+        ensures told { HasTold h self.old words tries result self.new }
+        ensures new { (piece : Piece) → result ≡ Ok (AllocAnswer.Given piece) → HasNewPage h self.old words tries piece.first self.new }
+        ensures hits { self.new.hits ≡ self.old.hits }
     {
         match self.cache.take(heap, page_words(words), tries) {
             AllocAnswer::Given(memory) => match self.cut(memory, piece_words(words)) {
@@ -157,6 +222,7 @@ impl PagedCache {
         requires page { IsPageFor size memory.block.place memory.block.need }
         ensures cut { IfOk result (λ piece. HasCut h self.old memory piece self.new × (piece.size ≡ size)) }
         ensures back { IfErr result (λ back. (back ≡ memory) × HasSamePages self.old self.new) }
+        ensures hits { self.new.hits ≡ self.old.hits }
     {
         let key = memory.place() / UNIT_WORDS;
         if self.grow(key as usize).is_err() {
@@ -178,6 +244,7 @@ impl PagedCache {
     fn grow(&mut self, key: usize) -> Result<(), AllocError>
         ensures long { IfOk result (λ _. key < length self.new.pages.items) }
         ensures same { HasSamePages self.old self.new }
+        ensures hits { self.new.hits ≡ self.old.hits }
     {
         while self.pages.len() <= key {
             self.pages.push(None)?;
@@ -197,9 +264,48 @@ impl PagedCache {
         ensures caller { self.new.cache.pass.errand.caller ≡ self.old.cache.pass.errand.caller }
         ensures keeps { (first size : ℕ) → IsOut self.old first size → first ≢ piece.first → IsOut self.new first size }
         ensures only { (first size : ℕ) → IsOut self.new first size → IsOut self.old first size × (first ≢ piece.first) }
+        ensures behind { GoesBehind heap.now self.old (piece.first / 2048) tries self.new }
+        ensures hits { self.new.hits ≡ self.old.hits }
+    {
+        let number = self.number_of(piece.first, piece.size);
+        self.put(heap, number, piece, tries);
+    }
+
+    /// Takes a piece back where it is out, as `give` does. Else it comes back, and nothing has changed.
+    #[inline(always)]
+    pub fn take_back(&mut self, heap: &Heap, piece: Piece, tries: u32) -> Result<(), Piece>
+        requires paged { IsPaged heap.now self.old }
+        requires piece { IsPiece heap.now piece }
+        requires tries { 0 < tries }
+        ensures paged { IsPaged heap.now self.new }
+        ensures caller { self.new.cache.pass.errand.caller ≡ self.old.cache.pass.errand.caller }
+        ensures out { IfOk result (λ _. IsOut self.old piece.first piece.size) }
+        ensures keeps { (first size : ℕ) → IsOut self.old first size → first ≢ piece.first → IsOut self.new first size }
+        ensures only { IfOk result (λ _. (first size : ℕ) → IsOut self.new first size → IsOut self.old first size × (first ≢ piece.first)) }
+        ensures behind { GoesBehind heap.now self.old (piece.first / 2048) tries self.new }
+        ensures hits { self.new.hits ≡ self.old.hits }
+        ensures stray { IfErr result (λ back. (back ≡ piece) × (self.new ≡ self.old) × (¬ IsOut self.old piece.first piece.size)) }
+    {
+        let Some(number) = self.number_out(piece.first, piece.size) else {
+            return Err(piece);
+        };
+        self.put(heap, number, piece, tries);
+        Ok(())
+    }
+
+    /// Takes the piece with this number of its page back, which is out.
+    #[inline(always)]
+    fn put(&mut self, heap: &Heap, number: u16, piece: Piece, tries: u32)
+        requires paged { IsPaged heap.now self.old }
+        requires piece { IsPiece heap.now piece }
+        requires out { IsOutBy self.old number piece.first piece.size }
+        requires tries { 0 < tries }
+        ensures back { TakesBack heap.now self.old piece.first self.new }
+        ensures behind { GoesBehind heap.now self.old (piece.first / 2048) tries self.new }
+        ensures hits { self.new.hits ≡ self.old.hits }
     {
         let place = piece.first / UNIT_WORDS as usize;
-        let follows = push_at(&mut self.pages[place], piece);
+        let follows = push_at(&mut self.pages[place], number, piece);
         if let Some((key, number, is_whole)) = follows {
             self.settle_page(heap, key, number, is_whole, tries);
         }
@@ -211,9 +317,11 @@ impl PagedCache {
         requires paged { IsPaged heap.now self.old }
         requires number { number < 51 }
         requires tries { 0 < tries }
-        ensures { HasSameOut heap.now self.old self.new }
+        ensures same { HasSameOut heap.now self.old self.new }
+        ensures behind { GoesBehind heap.now self.old key tries self.new }
+        ensures hits { self.new.hits ≡ self.old.hits }
     {
-        if !is_whole {
+        if !is_whole || self.ready[number] == NONE {
             self.link(key, number);
         } else if self.ready[number] != key {
             self.unlink(key, number);
@@ -233,6 +341,8 @@ impl PagedCache {
         ensures others { (other : ℕ) → other ≢ key → page_at self.new other ≡ page_at self.old other }
         ensures length { length self.new.pages.items ≡ length self.old.pages.items }
         ensures gone { result ≡ true → page_at self.new key ≡ None }
+        ensures behind { GoesBehind h self.old key tries self.new }
+        ensures hits { self.new.hits ≡ self.old.hits }
         ensures stays { result ≡ false → IsBusy self.new.cache.pass.errand ⊎ ((first : ℕ) × (size : ℕ) × IsOut self.new first size) }
     {
         let Some(Some(page)) = self.pages.get(key) else {
@@ -248,15 +358,29 @@ impl PagedCache {
         true
     }
 
-    /// Whether the word is the first one of a piece of this size that is out.
+    /// The number in its page of the piece of this size with this first word, which is out.
     #[inline(always)]
-    pub fn is_out(&self, first: usize, size: u32) -> bool
-        ensures yes { result ≡ true → IsOut self.now first size }
-        ensures no { IsOut self.now first size → result ≡ true }
+    fn number_of(&self, first: usize, _size: u32) -> u16
+        requires paged { (h : HeapFields) × IsPaged h self.now }
+        requires out { IsOut self.now first _size }
+        ensures { IsOutBy self.now result first _size }
+    {
+        let Some(page) = &self.pages[first / UNIT_WORDS as usize] else {
+            unreachable!()
+        };
+        page.number_of(first)
+    }
+
+    /// Where a piece of this size with this first word is out, its number in its page.
+    #[inline(always)]
+    fn number_out(&self, first: usize, size: u32) -> Option<u16>
+        requires paged { (h : HeapFields) × IsPaged h self.now }
+        ensures out { IfSome result (λ number. IsOutBy self.now number first size) }
+        ensures none { result ≡ None → ¬ IsOut self.now first size }
     {
         match self.pages.get(first / UNIT_WORDS as usize) {
-            Some(Some(page)) => page.size == size && page.is_out(first),
-            _ => false,
+            Some(Some(page)) if page.size == size => page.number_out(first),
+            _ => None,
         }
     }
 
@@ -301,7 +425,8 @@ impl PagedCache {
     /// Lays a page on top of the list of those that are ready with pieces of its size.
     fn link(&mut self, key: u32, number: usize)
         requires { number < 51 }
-        ensures { HasSamePages self.old self.new }
+        ensures same { HasSamePages self.old self.new }
+        ensures hits { self.new.hits ≡ self.old.hits }
     {
         let first = self.ready[number];
         self.lay_before(first, key);
@@ -313,7 +438,8 @@ impl PagedCache {
     /// Takes a page out of that list.
     fn unlink(&mut self, key: u32, number: usize)
         requires { number < 51 }
-        ensures { HasSamePages self.old self.new }
+        ensures same { HasSamePages self.old self.new }
+        ensures hits { self.new.hits ≡ self.old.hits }
     {
         let Some(Some(page)) = self.pages.get(key as usize) else {
             return;
@@ -332,7 +458,8 @@ impl PagedCache {
 
     /// Names the page that lies before another in its list.
     fn lay_before(&mut self, key: u32, before: u32)
-        ensures { HasSamePages self.old self.new }
+        ensures same { HasSamePages self.old self.new }
+        ensures hits { self.new.hits ≡ self.old.hits }
     {
         if let Some(place) = self.pages.get_mut(key as usize) {
             with_before(place, before);
@@ -341,7 +468,8 @@ impl PagedCache {
 
     /// Names the page that lies behind another in its list.
     fn lay_behind(&mut self, key: u32, behind: u32)
-        ensures { HasSamePages self.old self.new }
+        ensures same { HasSamePages self.old self.new }
+        ensures hits { self.new.hits ≡ self.old.hits }
     {
         if let Some(place) = self.pages.get_mut(key as usize) {
             with_behind(place, behind);
@@ -370,11 +498,25 @@ impl PagedCache {
     }
 }
 
+/// A piece of the page in this place of the table, whose chain has one.
+#[inline(always)]
+fn pop_from(place: &mut Option<Page>) -> Piece
+    requires { (page : Page) × (place.old ≡ Some page) × (slot_at page page.head ≢ Out) }
+    ensures { PopsAt place.old result place.new }
+{
+    let Some(page) = place else { unreachable!() };
+    let Some(piece) = page.pop() else {
+        unreachable!()
+    };
+    piece
+}
+
 /// A piece of the page in this place of the table, where its pieces are of this size; and whether none is home behind it.
 #[inline(always)]
 fn pop_at(place: &mut Option<Page>, size: u32) -> Option<(Piece, bool)>
     ensures given { IfSome result (λ told. PopsAt place.old told.0 place.new × (told.0.size ≡ size)) }
     ensures served { (page : Page) → place.old ≡ Some page → page.size ≡ size → slot_at page page.head ≢ Out → IsSome result }
+    ensures ready { IfSome result (λ _. (page : Page) × (place.old ≡ Some page) × (page.size ≡ size) × (slot_at page page.head ≢ Out)) }
     ensures none { result ≡ None → SamePages place.old place.new }
 {
     let Some(page) = place else {
@@ -387,18 +529,20 @@ fn pop_at(place: &mut Option<Page>, size: u32) -> Option<(Piece, bool)>
     Some((piece, page.home == 0))
 }
 
-/// Takes a piece back that is out of the page in this place of the table. Where it is the first one at home, or now all are:
-/// the page's number, that of its size, and whether all are.
+/// Takes the piece with this number of the page in this place of the table back. What follows for the page, where something
+/// does: its number, that of its size, and whether each of its pieces is home.
 #[inline(always)]
-fn push_at(place: &mut Option<Page>, piece: Piece) -> Option<(u32, usize, bool)>
-    requires out { (page : Page) × (place.old ≡ Some page) × IsOutAt page piece.first × (length page.slots.items < 2 ^ 16) }
+fn push_at(place: &mut Option<Page>, number: u16, piece: Piece) -> Option<(u32, usize, bool)>
+    requires out { (page : Page) × (place.old ≡ Some page) × IsOutAs page number piece.first }
     ensures pushed { PushesAt place.old piece place.new }
+    ensures key { IfSome result (λ told. (page : Page) × (place.old ≡ Some page) × (told.0 ≡ page.place / 2048)) }
     ensures number { IfSome result (λ told. told.1 < 51) }
 {
     let Some(page) = place else { unreachable!() };
-    page.push(piece);
+    page.push(number, piece);
     let is_whole = page.home as usize == page.slots.len();
-    if page.home == 1 || is_whole {
+    // The first one of a list stays there.
+    if page.home == 1 || (is_whole && page.before != NONE) {
         Some((page.place / UNIT_WORDS, size_number(page.size), is_whole))
     } else {
         None

@@ -1,8 +1,9 @@
 //! How many words a piece has, and how such sizes are numbered.
 
-ghost use Rattle.std.specs.Prelude.{◌≡◌, ◌<◌, ◌≤◌};
+ghost use Rattle.std.specs.Prelude.{◌≡◌, ◌-◌, ◌*◌, ◌/◌, ◌<◌, ◌≤◌};
 ghost use Rattle.heap_geometry.specs.declared.limits.TheConstants.{LARGE_MOST, SMALL_MOST};
-ghost use Rattle.memory_cache.specs.Sizes.{page_words, piece_words, size_number};
+ghost use Rattle.memory_cache.specs.declared.sizes.TheConstants.{FAR, PAIRED};
+ghost use Rattle.memory_cache.specs.Sizes.{page_words, piece_words, size_number, steps_of};
 
 use heap_geometry::limits::SMALL_MOST;
 use heap_geometry::need::{class_of, usable};
@@ -32,7 +33,7 @@ pub fn piece_words(words: u32) -> u32
     } else if words <= FAR {
         words.div_ceil(16) * 16
     } else if words <= PAIRED {
-        (PAIRED + 1) / ((PAIRED + 1) / words.div_ceil(2)) * 2
+        shared_words(words)
     } else {
         usable(class_of(page_words(words)))
     }
@@ -59,8 +60,50 @@ pub(crate) fn size_number(size: u32) -> usize
     } else if size <= FAR {
         27 + (size / 16) as usize
     } else if size <= PAIRED {
-        51 - (SMALL_MOST / size) as usize
+        shared_number(size)
     } else {
         SIZES - 1
+    }
+}
+
+/// How many words a piece has that serves so many, of a page with seven pieces to two: a table in place of two divisions.
+#[inline(always)]
+fn shared_words(words: u32) -> u32
+    requires { (FAR < words) × (words ≤ PAIRED) }
+    ensures { result ≡ 1023 / (1023 / steps_of 2 words) * 2 }
+{
+    if words <= 292 {
+        292
+    } else if words <= 340 {
+        340
+    } else if words <= 408 {
+        408
+    } else if words <= 510 {
+        510
+    } else if words <= 682 {
+        682
+    } else {
+        PAIRED
+    }
+}
+
+/// The number of the size of such pieces: a table in place of a division.
+#[inline(always)]
+fn shared_number(size: u32) -> usize
+    requires { (FAR < size) × (size ≤ PAIRED) }
+    ensures { result ≡ 51 - 2047 / size }
+{
+    if size <= 292 {
+        44
+    } else if size <= 341 {
+        45
+    } else if size <= 409 {
+        46
+    } else if size <= 511 {
+        47
+    } else if size <= 682 {
+        48
+    } else {
+        49
     }
 }

@@ -1,6 +1,6 @@
 -- What single calls make of a pass and of what it owns.
 use Rattle.std.proofs.Common.{ℕ, ◌≡◌, ◌≤◌, ◌%◌, ◌^◌, ◌+◌, List, [], ◌∷◌, Option, Some, None, refl, sym, ap, ◌∙◌, subst, inl, inr, arith}
-use Rattle.std.specs.Prelude.{length, option_map, slice_index_or}
+use Rattle.std.specs.Prelude.{length, option_map, slice_index, slice_index_or}
 use Rattle.heap_geometry.specs.Need.{need_of, usable_words}
 use Rattle.heap_geometry.specs.Need as needs
 use Rattle.pool_model.specs.Calls.{Ended}
@@ -18,6 +18,7 @@ use Rattle.errand_steps.specs.declared.reply.Reply.TheVariants as reply
 use Rattle.errand_steps.specs.Begins.{IsIdle}
 use Rattle.errand_steps.specs.Calls.{Call, alloc, put, read, take, write}
 use Rattle.sound_laws.specs.events.Ends.{end_of}
+use Rattle.sound_laws.specs.events.Made.{LeadsBy, found_from}
 use Rattle.step_machine.specs.Keeping.{LeavesPlace}
 use Rattle.lane_engine.specs.declared.calls.Allocated.{Allocated}
 use Rattle.lane_engine.specs.declared.calls.Allocated.TheVariants as allocated
@@ -34,6 +35,7 @@ use Rattle.live_heap.specs.Contents.{OwnsSame, owned_in}
 use Rattle.live_heap.specs.Holdings.{ChangesHand}
 use Rattle.live_heap.specs.Passes.{IsHome, IsOf, Owns, seen, view}
 use Rattle.live_heap.specs.Whole.{IsAtRest, IsWhole, MadeByPass, OwnsFor, at_once, by_steps}
+use Rattle.live_heap.specs.Words.{CallsOnWord}
 use Rattle.live_heap.proofs.laws_for_builders.AllBlocks.{whole-exact}
 use Rattle.live_heap.proofs.laws_for_builders.Changing.{called-changes, whole-changes}
 use Rattle.live_heap.proofs.laws_for_builders.Giving.{given-home, pass-hands, pass-serves}
@@ -200,6 +202,21 @@ three-read h p q r s block x y z b fold of_q of_r of_s first second third has_x 
     let tri : z ≡ w = read-finds s block 2 z w b has_z at_s (ap (λ (l : List (Option ℕ)). slice_index_or l 2 None) is) in
     ap (λ (k : ℕ). with_word (with_word (with_word fold k) y) z) one ∙ ap (λ (k : ℕ). with_word (with_word (with_word fold u) k) z) two
     ∙ ap (λ (k : ℕ). with_word (with_word (with_word fold u) v) k) tri ∙ ap (with_words fold) (sym is)
+
+-- three words were read by a slice, one after the other
+three-words : (words : List ℕ) → length words ≡ 3 → words ≡ slice_index words 0 ∷ slice_index words 1 ∷ slice_index words 2 ∷ []
+three-words (x ∷ y ∷ z ∷ []) long = refl
+three-words [] long = absurd (omega (arith, long))
+three-words (x ∷ []) long = absurd (omega (arith, long))
+three-words (x ∷ y ∷ []) long = absurd (omega (arith, long))
+three-words (x ∷ y ∷ z ∷ w ∷ more) long = absurd (omega (arith, long))
+
+pub three-found :
+    (h : HeapFields) (p q : Pass) (block : Block) (words : List ℕ) → length words ≡ 3
+    → LeadsBy (CallsOnWord h) p (found_from block.place block.need 0 words) q
+    → LeadsBy (CallsOnWord h) p (found_from block.place block.need 0 (slice_index words 0 ∷ slice_index words 1 ∷ slice_index words 2 ∷ [])) q
+three-found h p q block words long leads =
+    subst (λ (l : List ℕ). LeadsBy (CallsOnWord h) p (found_from block.place block.need 0 l) q) (three-words words long) leads
 
 -- a block of three words has three of them
 pub three-long :

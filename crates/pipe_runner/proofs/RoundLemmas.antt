@@ -1,5 +1,5 @@
 -- The senders' threads in a round.
-use Rattle.std.proofs.Common.{ℕ, suc, ◌≡◌, ◌<◌, ◌≤◌, ◌+◌, List, [], ◌∷◌, get_or, length, take, drop, ◌++◌, sym, ◌∙◌, ap, subst, arith}
+use Rattle.std.proofs.Common.{ℕ, zero, suc, ◌≡◌, ◌<◌, ◌≤◌, ◌+◌, List, [], ◌∷◌, get_or, length, take, drop, ◌++◌, sym, ◌∙◌, ap, subst, arith}
 use Rattle.std.specs.Prelude.{All}
 use Rattle.std.proofs.lemmas.Grind.{common_steps}
 use Rattle.std.proofs.lemmas.List.{append-nil}
@@ -44,3 +44,15 @@ pub written-whole : {X : Type 0} (xs ys : List X) (n : ℕ) → length xs ≡ n 
 written-whole xs ys n a b =
     let none : drop (length xs) ys ≡ [] = grind (arith, common_steps) in
     ap (λ l. take n (xs ++ l)) none ∙ (ap (take n) (append-nil xs) ∙ grind (arith, common_steps))
+
+-- what holds of the first element before and after, and of each of the others, holds of each
+pub all-sent :
+    {X : Type 0} (R : X → X → Type 0) (all : List X) (x y : X) (xs ys : List X) → all ≡ x ∷ xs → R x y
+    → ((i : ℕ) (d : X) → i < length xs → R (get_or xs i d) (get_or ys i d)) → (i : ℕ) (d : X) → i < length all
+    → R (get_or all i d) (get_or (y ∷ ys) i d)
+all-sent R all x y xs ys is first others i d below =
+    subst (λ l. R (get_or l i d) (get_or (y ∷ ys) i d)) (sym is) (each i (subst (λ l. i < length l) is below))
+  where
+    each : (i : ℕ) → i < length (x ∷ xs) → R (get_or (x ∷ xs) i d) (get_or (y ∷ ys) i d)
+    each zero below = first
+    each (suc i) below = others i d (omega (arith, below))

@@ -57,9 +57,8 @@ pub(crate) fn write_message(heap: &Heap, pass: &mut Pass, block: &Block, first: 
         → (b : PoolBlock) × (owned_in pass.new block.now.place ≡ Some b) × (b.contents ≡ three_from first) }
     ensures wrote { LeadsBy MadeByPass pass.old (wrote_from block.now.place block.now.need 0 (words_from first)) pass.new }
 {
-    heap.write(pass, block, 0, first);
-    heap.write(pass, block, 1, first.wrapping_add(1));
-    heap.write(pass, block, 2, first.wrapping_add(2));
+    let words = [first, first.wrapping_add(1), first.wrapping_add(2)];
+    heap.write_slice(pass, block, 0, &words);
 }
 
 /// The fold with one word more.
@@ -82,8 +81,8 @@ pub(crate) fn fold_block(heap: &Heap, pass: &mut Pass, block: &Block, fold: u64)
     if block.usable_words() < 3 {
         return fold;
     }
-    let a = heap.read(pass, block, 0);
-    let b = heap.read(pass, block, 1);
-    let c = heap.read(pass, block, 2);
+    let mut words = [0; 3];
+    heap.read_slice(pass, block, 0, &mut words);
+    let [a, b, c] = words;
     with_word(with_word(with_word(fold, a), b), c)
 }

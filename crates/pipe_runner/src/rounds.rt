@@ -10,14 +10,15 @@ use block_pipe::pipe::Pipe;
 use edge_io::gate::Gate;
 use live_heap::heap::Heap;
 use std::sync::Wait;
-use std::thread;
 use std::thread::{Threads, join_mut};
 
 /// How many messages a sender sends in a round.
 pub const PER_ROUND: u64 = 8;
 
-/// Each sender sends until it has sent so many, on a thread of its own.
-fn send_each<R: Threads + Wait + Sync, G: Gate + Sync>(
+/// Each sender sends until it has sent so many, on a thread of its own, and the receiver receives beside them.
+/// This thread starts one sender after the other and then receives, so that it waits for few of them.
+#[cycle(beside)]
+fn send_beside<R: Threads + Wait + Sync, G: Gate + Sync>(
     rt: &R,
     pipe: &Pipe,
     heap: &Heap,
@@ -25,26 +26,58 @@ fn send_each<R: Threads + Wait + Sync, G: Gate + Sync>(
     start: u64,
     until: u64,
     senders: &mut [SenderThread],
+    receiver: &mut ReceiverThread,
 )
-    requires some { 0 < length senders.old }
     requires may { All (λ w. MaySend (G.passed gate.now) heap.now pipe.now start until w) senders.old }
-    ensures { (i : ℕ) (d : _) → i < length senders.old
+    requires receives { IsReceiving heap.now pipe.now receiver.old }
+    ensures sent { (i : ℕ) (d : _) → i < length senders.old
         → SendsUntil (G.passed gate.now) heap.now pipe.now start until (slice_index_or senders.old i d) (slice_index_or senders.new i d) }
+    ensures receives { IsReceiving heap.now pipe.now receiver.new }
 {
-    let count = senders.len();
-    thread::for_each_mut(
-        rt,
-        senders,
-        count,
-        &|_, sender: &mut SenderThread|
-            requires { MaySend (G.passed gate.now) heap.now pipe.now start until sender.old }
-            ensures { SendsUntil (G.passed gate.entry.now) heap.entry.now pipe.entry.now start until sender.old sender.new }
-        { sender.send_until(rt, pipe, heap, gate, start, until) },
-    );
+    match senders.split_first_mut() {
+        None => receiver.receive_all(rt, pipe, heap),
+        Some((first, others)) => {
+            send_first(rt, pipe, heap, gate, start, until, first, others, receiver);
+        }
+    }
 }
 
-/// All senders go on from so many messages until so many.
-fn send_all<R: Threads + Wait + Sync, G: Gate + Sync>(
+/// The first of them sends on a thread of its own.
+#[cycle(beside)]
+fn send_first<R: Threads + Wait + Sync, G: Gate + Sync>(
+    rt: &R,
+    pipe: &Pipe,
+    heap: &Heap,
+    gate: &G,
+    start: u64,
+    until: u64,
+    first: &mut SenderThread,
+    others: &mut [SenderThread],
+    receiver: &mut ReceiverThread,
+)
+    requires first { MaySend (G.passed gate.now) heap.now pipe.now start until first.old }
+    requires others { All (λ w. MaySend (G.passed gate.now) heap.now pipe.now start until w) others.old }
+    requires receives { IsReceiving heap.now pipe.now receiver.old }
+    ensures first { SendsUntil (G.passed gate.now) heap.now pipe.now start until first.old first.new }
+    ensures others { (i : ℕ) (d : _) → i < length others.old
+        → SendsUntil (G.passed gate.now) heap.now pipe.now start until (slice_index_or others.old i d) (slice_index_or others.new i d) }
+    ensures receives { IsReceiving heap.now pipe.now receiver.new }
+{
+    let mut send = ||
+        requires { MaySend (G.passed gate.now) heap.now pipe.now start until first.now }
+        ensures { SendsUntil (G.passed gate.entry.now) heap.entry.now pipe.entry.now start until first.entry.now first.exit.now }
+    { first.send_until(rt, pipe, heap, gate, start, until) };
+    let mut go_on = ||
+        requires { All (λ w. MaySend (G.passed gate.now) heap.now pipe.now start until w) others.now × IsReceiving heap.now pipe.now receiver.now }
+        ensures { ((i : ℕ) (d : _) → i < length others.entry.now
+            → SendsUntil (G.passed gate.entry.now) heap.entry.now pipe.entry.now start until (slice_index_or others.entry.now i d) (slice_index_or others.exit.now i d))
+            × IsReceiving heap.entry.now pipe.entry.now receiver.exit.now }
+    { send_beside(rt, pipe, heap, gate, start, until, others, receiver) };
+    join_mut(rt, &mut send, &mut go_on);
+}
+
+/// A round: all senders go on from so many messages until so many, and the receiver receives beside them.
+fn round<R: Threads + Wait + Sync, G: Gate + Sync>(
     rt: &R,
     pipe: &Pipe,
     heap: &Heap,
@@ -53,45 +86,24 @@ fn send_all<R: Threads + Wait + Sync, G: Gate + Sync>(
     _from: u64,
     until: u64,
     senders: &mut Vec<SenderThread>,
-)
-    requires some { 0 < length senders.old.items }
-    requires stands { AreSending (G.passed gate.now) heap.now pipe.now start _from 0 senders.old.items }
-    requires until { (_from ≤ until) × (until ≤ MAX_MESSAGES) }
-    ensures stands { AreSending (G.passed gate.now) heap.now pipe.now start until 0 senders.new.items }
-    ensures all { length senders.new.items ≡ length senders.old.items }
-{
-    send_each(rt, pipe, heap, gate, start, until, senders.as_mut_slice());
-}
-
-/// A round: all senders send beside each other, and the receiver receives beside them.
-fn round<R: Threads + Wait + Sync, G: Gate + Sync>(
-    rt: &R,
-    pipe: &Pipe,
-    heap: &Heap,
-    gate: &G,
-    start: u64,
-    from: u64,
-    until: u64,
-    senders: &mut Vec<SenderThread>,
     receiver: &mut ReceiverThread,
 )
-    requires some { 0 < length senders.old.items }
-    requires stands { AreSending (G.passed gate.now) heap.now pipe.now start from 0 senders.old.items }
-    requires until { (from ≤ until) × (until ≤ MAX_MESSAGES) }
+    requires stands { AreSending (G.passed gate.now) heap.now pipe.now start _from 0 senders.old.items }
+    requires until { (_from ≤ until) × (until ≤ MAX_MESSAGES) }
     requires receives { IsReceiving heap.now pipe.now receiver.old }
     ensures stands { AreSending (G.passed gate.now) heap.now pipe.now start until 0 senders.new.items }
     ensures all { length senders.new.items ≡ length senders.old.items }
     ensures receives { IsReceiving heap.now pipe.now receiver.new }
 {
-    join_mut(
+    send_beside(
         rt,
-        &mut ||
-            requires { (0 < length senders.now.items) × AreSending (G.passed gate.now) heap.now pipe.now start from 0 senders.now.items
-                × (from ≤ until) × (until ≤ MAX_MESSAGES) }
-        { send_all(rt, pipe, heap, gate, start, from, until, senders) },
-        &mut ||
-            requires { IsReceiving heap.now pipe.now receiver.now }
-        { receiver.receive_all(rt, pipe, heap) },
+        pipe,
+        heap,
+        gate,
+        start,
+        until,
+        senders.as_mut_slice(),
+        receiver,
     );
 }
 
@@ -106,7 +118,6 @@ pub(crate) fn send_in_rounds<R: Threads + Wait + Sync, G: Gate + Sync>(
     senders: &mut Vec<SenderThread>,
     receiver: &mut ReceiverThread,
 )
-    requires some { 0 < length senders.old.items }
     requires stands { AreSending (G.passed gate.now) heap.now pipe.now start 0 0 senders.old.items }
     requires few { messages ≤ MAX_MESSAGES }
     requires receives { IsReceiving heap.now pipe.now receiver.old }

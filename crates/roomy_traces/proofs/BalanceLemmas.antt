@@ -12,10 +12,14 @@ use Rattle.lane_outcomes.specs.declared.outcome.Outcome.{Outcome}
 use Rattle.lane_outcomes.specs.declared.outcome.Outcome.TheVariants as outcome
 use Rattle.lane_outcomes.specs.Lane.{Position, held_in, registers_after}
 use Rattle.lane_outcomes.specs.LaneCounts.{words_given, words_freed, count_with, as_one}
-use Rattle.lane_outcomes.specs.Rows.{Setting, AllocRow, FreeRow, ResizeRow, FitsRow}
-use Rattle.lane_outcomes.proofs.HoldLemmas.{held-inside}
+use Rattle.lane_outcomes.specs.Rows.{Setting, ResizeRow, FitsRow}
 use Rattle.roomy_traces.specs.Roomy.{Filled, IsPlain, filled_in, moves}
 use Rattle.roomy_traces.proofs.RegisterLemmas.{IsAlike, words_held, own_by, words_filled, need_held, need_filled, alike-at, need-at, mismatch, moves-on}
+use Rattle.roomy_traces.proofs.PieceLemmas.{IsPlainDeed, plain-deed}
+use Rattle.lane_outcomes.proofs.SlotRows.{Adds, row-adds}
+use Rattle.lane_outcomes.specs.Deeds as deed
+use Rattle.lane_outcomes.specs.Deeds.{Deed, deed_of, freed_by, given_by, register_of, registers_by}
+use Rattle.lane_outcomes.specs.Cached.{CachedPosition, CachedRow}
 
 -- what the block in a register counts, if it holds one
 abbrev weigh : (ℕ → ℕ) → Option HeldBlock → ℕ
@@ -29,59 +33,35 @@ set-balance f registers r held now within full =
     let here : weigh f (get_or registers r None) ≡ weigh f held = ap (weigh f) full in
     omega arith
 
-alloc-balance :
-    (f : ℕ → ℕ) (setting : Setting) (position : Position) (r need v : ℕ) (held : Option HeldBlock) (result : Outcome) (piece : List Event)
-    → r < length position.registers → held_in position.registers r ≡ held → AllocRow setting position need v held result piece
-    → count_with f (words_given (op.Alloc r need v) result) + own_by f position.registers
-    ≡ 0 + own_by f (registers_after position.registers (op.Alloc r need v) result)
-alloc-balance f setting position r need v (Some held) outcome.Skipped piece within full row = refl
-alloc-balance f setting position r need v None (outcome.Given words place) piece within full row =
-    set-balance f position.registers r None (Some (record { place = place; words = words; need = need_of need })) within full
-alloc-balance f setting position r need v None outcome.Refused piece within full row = refl
-alloc-balance f setting position r need v None outcome.Spent piece within full row = refl
-alloc-balance f setting position r need v held result piece within full row = absurd row
-
-free-balance :
-    (f : ℕ → ℕ) (setting : Setting) (position : Position) (r : ℕ) (held : Option HeldBlock) (result : Outcome) (piece : List Event)
-    → held_in position.registers r ≡ held → FreeRow setting held result piece
-    → 0 + own_by f position.registers
-    ≡ count_with f (words_freed position.registers (op.Free r) result) + own_by f (registers_after position.registers (op.Free r) result)
-free-balance f setting position r None outcome.Skipped piece full row = refl
-free-balance f setting position r (Some held) outcome.Freed piece full row =
-    rw full (set-balance f position.registers r (Some held) None (held-inside position.registers r held full) full)
-free-balance f setting position r held result piece full row = absurd row
-
-resize-balance :
-    (f : ℕ → ℕ) (setting : Setting) (position : Position) (r need : ℕ) (held : Option HeldBlock) (result : Outcome) (piece : List Event)
-    → held_in position.registers r ≡ held → ResizeRow setting position need held result piece
-    → count_with f (words_given (op.Resize r need) result) + own_by f position.registers
-    ≡ count_with f (words_freed position.registers (op.Resize r need) result) + own_by f (registers_after position.registers (op.Resize r need) result)
-resize-balance f setting position r need None outcome.Skipped piece full row = refl
-resize-balance f setting position r need (Some held) (outcome.Kept words place) piece full row = refl
-resize-balance f setting position r need (Some held) (outcome.Resized words place) piece full row =
-    rw full
-    (set-balance f position.registers r (Some held) (Some (record { place = place; words = words; need = need_of need }))
-    (held-inside position.registers r held full) full)
-resize-balance f setting position r need (Some held) outcome.Refused piece full row = refl
-resize-balance f setting position r need (Some held) outcome.Spent piece full row = refl
-resize-balance f setting position r need held result piece full row = absurd row
-
 -- what is given and what was held are together what is freed and what is held then
+balance-by :
+    (f : ℕ → ℕ) (setting : Setting) (depth : ℕ) (position : CachedPosition) (r : ℕ) (done : Deed) (piece : List Event) → IsPlainDeed done
+    → r < length position.base.registers → Adds setting depth position r done piece
+    → count_with f (given_by done) + own_by f position.base.registers
+    ≡ count_with f (freed_by (held_in position.base.registers r) done) + own_by f (registers_by position.base.registers r done)
+balance-by f setting depth position r (deed.gives need v words place) piece plain within row =
+    set-balance f position.base.registers r None (Some (record { place = place; words = words; need = need_of need })) within row.0
+balance-by f setting depth position r (deed.replaces need words place) piece plain within (held, full, differ, words_are, calls, given, value, copy, is) =
+    rw full (set-balance f position.base.registers r (Some held) (Some (record { place = place; words = words; need = need_of need })) within full)
+balance-by f setting depth position r deed.frees piece plain within (held, full, is) =
+    rw full (set-balance f position.base.registers r (Some held) None within full)
+balance-by f setting depth position r deed.lays piece plain within row = absurd plain
+balance-by f setting depth position r (deed.takes words place need) piece plain within row = absurd plain
+balance-by f setting depth position r done piece plain within row = refl
+
+op-within : (operation : Op) → IsOp operation → register_of operation < REGISTERS
+op-within (op.Free r) is = is
+op-within (op.Check r) is = is
+op-within operation is = is.0
+
 pub row-balance :
-    (f : ℕ → ℕ) (setting : Setting) (position : Position) (operation : Op) (result : Outcome) (piece : List Event) → IsPlain operation → IsOp operation
-    → length position.registers ≡ REGISTERS → FitsRow setting position operation result piece
-    → count_with f (words_given operation result) + own_by f position.registers
-    ≡ count_with f (words_freed position.registers operation result) + own_by f (registers_after position.registers operation result)
-row-balance f setting position (op.Alloc r need v) result piece plain ranges many row =
-    alloc-balance f setting position r need v (held_in position.registers r) result piece (subst (λ n. r < n) (sym many) ranges.0) refl row
-row-balance f setting position (op.Free r) result piece plain ranges many row =
-    free-balance f setting position r (held_in position.registers r) result piece refl row
-row-balance f setting position (op.Fill r v) result piece plain ranges many row = refl
-row-balance f setting position (op.Check r) result piece plain ranges many row = refl
-row-balance f setting position (op.Resize r need) result piece plain ranges many row =
-    resize-balance f setting position r need (held_in position.registers r) result piece refl row
-row-balance f setting position (op.Put r shelf) result piece plain ranges many row = absurd plain
-row-balance f setting position (op.Take r shelf) result piece plain ranges many row = absurd plain
+    (f : ℕ → ℕ) (setting : Setting) (depth : ℕ) (position : CachedPosition) (operation : Op) (result : Outcome) (piece : List Event) → IsPlain operation
+    → IsOp operation → length position.base.registers ≡ REGISTERS → CachedRow setting depth position operation result piece
+    → count_with f (words_given operation result) + own_by f position.base.registers
+    ≡ count_with f (words_freed position.base.registers operation result) + own_by f (registers_after position.base.registers operation result)
+row-balance f setting depth position operation result piece plain ranges many row =
+    balance-by f setting depth position (register_of operation) (deed_of operation result) piece (plain-deed operation result plain)
+    (subst (λ n. register_of operation < n) (sym many) (op-within operation ranges)) (row-adds setting depth position operation result piece row)
 
 -- an operation gives no block, or frees none, or moves one
 abbrev pub IsOneSided : List (Option HeldBlock) → Option Filled → Op → Outcome → Type 0
@@ -104,14 +84,17 @@ pub row-sided :
     (setting : Setting) (position : Position) (filled : List (Option Filled)) (operation : Op) (result : Outcome) (piece : List Event)
     → IsAlike position.registers filled → FitsRow setting position operation result piece
     → IsOneSided position.registers (filled_in filled operation) operation result
-row-sided setting position filled (op.Free r) result piece alike row = inl refl
 row-sided setting position filled (op.Resize r need) result piece alike row =
     resize-sided setting position r need (held_in position.registers r) result (filled_in filled (op.Resize r need)) piece
     (alike-at position.registers filled r alike) (need-at position.registers filled r alike) row
-row-sided setting position filled operation result piece alike row = inr (inl refl)
+row-sided setting position filled (op.Alloc r need v) (outcome.Given words place) piece alike row = inr (inl refl)
+row-sided setting position filled (op.Free r) outcome.Freed piece alike row = inl refl
+row-sided setting position filled (op.Put r shelf) outcome.Put piece alike row = inl refl
+row-sided setting position filled (op.Take r shelf) (outcome.Took words place need) piece alike row = inl refl
+row-sided setting position filled operation result piece alike row = inl refl
 
 -- an operation gives at most one block
-pub gives-one : (operation : Op) (result : Outcome) → count_with as_one (words_given operation result) ≤ 1
-gives-one (op.Alloc r need v) (outcome.Given words place) = omega arith
-gives-one (op.Resize r need) (outcome.Resized words place) = omega arith
-gives-one operation result = omega arith
+pub gives-one : (done : Deed) → count_with as_one (given_by done) ≤ 1
+gives-one (deed.gives need v words place) = omega arith
+gives-one (deed.replaces need words place) = omega arith
+gives-one done = omega arith

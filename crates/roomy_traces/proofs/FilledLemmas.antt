@@ -1,5 +1,5 @@
 -- The blocks in a lane's registers contain what the lane filled them with, from operation to operation.
-use Rattle.std.proofs.Common.{ℕ, zero, suc, replicate, ◌≡◌, ◌≢◌, ◌+◌, ◌<◌, List, [], ◌∷◌, ◌++◌, Option, Some, None, length, refl, sym, ◌∙◌, ap, subst, inl, inr, append-nil}
+use Rattle.std.proofs.Common.{ℕ, replicate, ◌≡◌, ◌≢◌, ◌+◌, ◌<◌, List, [], ◌∷◌, ◌++◌, Option, Some, None, length, refl, sym, ◌∙◌, ap, subst, inl, inr, append-nil}
 use Rattle.std.specs.Prelude.{slice_set, slice_index_or}
 use Rattle.std.specs.List.{AllByRecursion}
 use Rattle.std.proofs.lemmas.Bool.{cases_eq}
@@ -16,7 +16,7 @@ use Rattle.lane_outcomes.specs.declared.outcome.Outcome.{Outcome}
 use Rattle.lane_outcomes.specs.declared.outcome.Outcome.TheVariants as outcome
 use Rattle.lane_outcomes.specs.Lane.{Position, held_in, registers_after, filling, writing}
 use Rattle.lane_outcomes.specs.Rows.{Setting, FillRow, CheckRow, FitsRow}
-use Rattle.lane_outcomes.proofs.HoldLemmas.{HoldsOnce, held-inside}
+use Rattle.lane_outcomes.proofs.HoldLemmas.{HoldsOnce, held-inside, held-nothing}
 use Rattle.roomy_traces.specs.Roomy.{Filled, numbers_from, serial_step}
 use Rattle.roomy_traces.proofs.LaneLemmas.{all-append}
 use Rattle.roomy_traces.proofs.PieceLemmas.{IsGivenBy, all-looks, all-filling, all-writing}
@@ -29,14 +29,9 @@ AreFilled history caller done registers filled =
     (r : ℕ) (held : HeldBlock) (now : Filled) → held_in registers r ≡ Some held → slice_index_or filled r None ≡ Some now
     → AtMoments history caller done (HasContents caller held.place (with_numbers now.numbers))
 
-nothing-in : (n r : ℕ) → held_in (replicate n None) r ≡ None
-nothing-in zero r = refl
-nothing-in (suc n) zero = refl
-nothing-in (suc n) (suc r) = nothing-in n r
-
 pub filled-start : (history : List Event) (caller n : ℕ) (filled : List (Option Filled)) → AreFilled history caller [] (replicate n None) filled
 filled-start history caller n filled r held now full there =
-    absurd (let e : None ≡ Some held = sym (nothing-in n r) ∙ full in cc)
+    absurd (let e : None ≡ Some held = sym (held-nothing n r) ∙ full in cc)
 
 -- held blocks contain what they were filled with after a piece without events
 pub filled-none :

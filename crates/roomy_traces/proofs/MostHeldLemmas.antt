@@ -1,5 +1,5 @@
 -- At each moment before a refusal a lane holds at most its most blocks.
-use Rattle.std.proofs.Common.{ℕ, count_by, cond, true, ◌≡◌, ◌⊎◌, ◌+◌, ◌≤◌, List, [], ◌∷◌, ◌++◌, Option, Some, None, max, refl, sym, ◌∙◌, ap, subst, inl, inr, arith}
+use Rattle.std.proofs.Common.{ℕ, count_by, cond, true, ◌≡◌, ◌⊎◌, ◌+◌, ◌≤◌, List, [], ◌∷◌, ◌++◌, Option, max, refl, sym, ◌∙◌, ap, subst, inl, inr, arith}
 use Rattle.std.specs.List.{AllByRecursion}
 use Rattle.std.proofs.lemmas.List.Sums.{sum_by-append}
 use Rattle.heap_geometry.specs.Need.{need_of}
@@ -9,13 +9,14 @@ use Rattle.pool_model.specs.Counts.{is_alloc, is_free}
 use Rattle.pool_model.specs.Histories.{Begins}
 use Rattle.trace_text.specs.declared.trace.Op.{Op}
 use Rattle.trace_text.specs.declared.trace.Op.TheVariants as op
-use Rattle.lane_outcomes.specs.declared.registers.HeldBlock.{HeldBlock}
+use Rattle.lane_outcomes.specs.Deeds.{register_of}
 use Rattle.lane_outcomes.specs.declared.outcome.Outcome.{Outcome}
 use Rattle.lane_outcomes.specs.declared.outcome.Outcome.TheVariants as outcome
 use Rattle.lane_outcomes.specs.Lane.{Position, held_in}
 use Rattle.lane_outcomes.specs.LaneCounts.{words_given, count_with, as_one}
-use Rattle.lane_outcomes.specs.Rows.{Setting, AllocRow, FreeRow, FillRow, CheckRow, ResizeRow, FitsRow}
-use Rattle.roomy_traces.specs.Roomy.{Filled, IsPlain, filled_in, moves, held_by, held_during}
+use Rattle.lane_outcomes.specs.Rows.{Setting, FitsRow}
+use Rattle.lane_outcomes.proofs.SlotRows.{row-refused as refused-row}
+use Rattle.roomy_traces.specs.Roomy.{Filled, filled_in, moves, held_by, held_during}
 use Rattle.roomy_traces.proofs.LaneLemmas.{all-ends, count-begins}
 use Rattle.roomy_traces.proofs.PieceLemmas.{Counts, refused-by}
 use Rattle.roomy_traces.proofs.SpentLemmas.{IsUnspent}
@@ -33,44 +34,13 @@ answered-or outcome.Refused unspent = inr refl
 answered-or result unspent = inl tt
 
 -- a refusal adds its event
-alloc-refuses :
-    (setting : Setting) (position : Position) (need v : ℕ) (held : Option HeldBlock) (piece : List Event) → AllocRow setting position need v held outcome.Refused piece
-    → AllByRecursion IsUnrefusing piece → ⊥
-alloc-refuses setting position need v None piece row none =
-    let refused = refused-by setting.caller need (need_of need) piece row.1 in
-    (all-ends IsUnrefusing refused.looked (Refuse setting.caller need ∷ []) (subst (AllByRecursion IsUnrefusing) refused.whole none)).0
-alloc-refuses setting position need v (Some held) piece row none = row
-
-free-refuses : (setting : Setting) (held : Option HeldBlock) (piece : List Event) → FreeRow setting held outcome.Refused piece → ⊥
-free-refuses setting None piece row = row
-free-refuses setting (Some held) piece row = row
-
-fill-refuses : (setting : Setting) (v : ℕ) (held : Option HeldBlock) (piece : List Event) → FillRow setting v held outcome.Refused piece → ⊥
-fill-refuses setting v None piece row = row
-fill-refuses setting v (Some held) piece row = row
-
-check-refuses : (setting : Setting) (position : Position) (held : Option HeldBlock) (piece : List Event) → CheckRow setting position held outcome.Refused piece → ⊥
-check-refuses setting position None piece row = row
-check-refuses setting position (Some held) piece row = row
-
-resize-refuses :
-    (setting : Setting) (position : Position) (need : ℕ) (held : Option HeldBlock) (piece : List Event) → ResizeRow setting position need held outcome.Refused piece
-    → AllByRecursion IsUnrefusing piece → ⊥
-resize-refuses setting position need (Some held) piece row none =
-    let refused = refused-by setting.caller need (need_of need) piece row.2 in
-    (all-ends IsUnrefusing refused.looked (Refuse setting.caller need ∷ []) (subst (AllByRecursion IsUnrefusing) refused.whole none)).0
-resize-refuses setting position need None piece row none = row
-
 pub row-refuses :
-    (setting : Setting) (position : Position) (operation : Op) (piece : List Event) → IsPlain operation
-    → FitsRow setting position operation outcome.Refused piece → AllByRecursion IsUnrefusing piece → ⊥
-row-refuses setting position (op.Alloc r need v) piece plain row none = alloc-refuses setting position need v (held_in position.registers r) piece row none
-row-refuses setting position (op.Free r) piece plain row none = free-refuses setting (held_in position.registers r) piece row
-row-refuses setting position (op.Fill r v) piece plain row none = fill-refuses setting v (held_in position.registers r) piece row
-row-refuses setting position (op.Check r) piece plain row none = check-refuses setting position (held_in position.registers r) piece row
-row-refuses setting position (op.Resize r need) piece plain row none = resize-refuses setting position need (held_in position.registers r) piece row none
-row-refuses setting position (op.Put r shelf) piece plain row none = plain
-row-refuses setting position (op.Take r shelf) piece plain row none = plain
+    (setting : Setting) (position : Position) (operation : Op) (piece : List Event) → FitsRow setting position operation outcome.Refused piece
+    → AllByRecursion IsUnrefusing piece → ⊥
+row-refuses setting position operation piece row none =
+    let (need, is, events) = refused-row setting position piece operation (held_in position.registers (register_of operation)) row in
+    let refused = refused-by setting.caller need (need_of need) piece events in
+    (all-ends IsUnrefusing refused.looked (Refuse setting.caller need ∷ []) (subst (AllByRecursion IsUnrefusing) refused.whole none)).0
 
 pub refused-gives : (operation : Op) → count_with as_one (words_given operation outcome.Refused) ≡ 0
 refused-gives (op.Alloc r need v) = refl

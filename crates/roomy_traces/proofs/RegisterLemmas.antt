@@ -1,5 +1,5 @@
 -- The registers of a lane beside those of the lane computed on its own.
-use Rattle.std.proofs.Common.{ℕ, zero, suc, get_or, sum_by, option_map, false, true, ◌≡◌, ◌≢◌, ◌+◌, ◌%◌, ◌^◌, List, [], ◌∷◌, Option, Some, None, length, map, set, sum, refl, sym, ◌∙◌, ap, subst, arith, length-set, eq-eqb, ne_eqb}
+use Rattle.std.proofs.Common.{ℕ, zero, suc, get_or, sum_by, option_map, false, true, ◌≡◌, ◌≢◌, ◌+◌, ◌%◌, ◌^◌, List, [], ◌∷◌, Option, Some, None, length, map, set, sum, refl, sym, ◌∙◌, ap, arith, length-set, eq-eqb, ne_eqb}
 use Rattle.std.specs.Prelude.{slice_set, slice_index_or}
 use Rattle.std.proofs.lemmas.List.{map-set, set-get_or}
 use Rattle.std.proofs.lemmas.List.Sums.{sum_by-cons}
@@ -11,13 +11,16 @@ use Rattle.pool_model.specs.declared.event.Event.{Event}
 use Rattle.trace_text.specs.declared.limits.TheConstants.{REGISTERS}
 use Rattle.trace_text.specs.declared.trace.Op.{Op}
 use Rattle.trace_text.specs.declared.trace.Op.TheVariants as op
+use Rattle.lane_outcomes.specs.Deeds.{Deed, deed_of, register_of}
+use Rattle.lane_outcomes.specs.Deeds as deed
+use Rattle.roomy_traces.specs.Through.{asked, returned}
 use Rattle.lane_outcomes.specs.declared.registers.HeldBlock.{HeldBlock}
 use Rattle.lane_outcomes.specs.declared.outcome.Outcome.{Outcome}
 use Rattle.lane_outcomes.specs.declared.outcome.Outcome.TheVariants as outcome
 use Rattle.lane_outcomes.specs.Lane.{Position, held_in, registers_after}
 use Rattle.lane_outcomes.specs.LaneCounts.{count_with}
 use Rattle.lane_outcomes.specs.Rows.{Setting, AllocRow, FreeRow, FillRow, CheckRow, ResizeRow, FitsRow}
-use Rattle.roomy_traces.specs.Roomy.{Filled, IsPlain, copied, is_same, moved_to, numbers_from, filled_in, serial_step, serial_after, held_by}
+use Rattle.roomy_traces.specs.Roomy.{Filled, IsPlain, copied, is_same, moved_to, numbers_from, filled_in, serial_step, held_by}
 use Rattle.roomy_traces.specs.Serial.{serial_outcome, without_place}
 
 -- the words of a block in a register
@@ -136,20 +139,45 @@ IsSummed (Some filled) (outcome.Sum total) = total ≡ sum filled.numbers % 2 ^ 
 IsSummed filled result = Unit {0}
 
 -- the sum of a check is that of the numbers with which its register's block was filled
-abbrev pub IsSummedAt : List (Option Filled) → Op → Outcome → Type 0
-IsSummedAt filled (op.Check r) result = IsSummed (slice_index_or filled r None) result
-IsSummedAt filled operation result = Unit {0}
+abbrev pub IsSummedFor : Option Filled → Op → Outcome → Type 0
+IsSummedFor now (op.Check r) result = IsSummed now result
+IsSummedFor now operation result = Unit {0}
 
--- an operation does what it does where the lane is computed on its own
-pub record IsSerialRow (registers : List (Option HeldBlock)) (filled : List (Option Filled)) (now : Option Filled) (operation : Op) (result : Outcome) : Type 0 where
+abbrev pub IsSummedAt : List (Option Filled) → Op → Outcome → Type 0
+IsSummedAt filled operation result = IsSummedFor (filled_in filled operation) operation result
+
+-- the need of the block that was given, and of the one that was freed, where the register held this
+abbrev pub asked_by : Deed → Option Need
+asked_by (deed.gives need v words place) = Some (need_of need)
+asked_by (deed.replaces need words place) = Some (need_of need)
+asked_by done = None
+
+abbrev pub returned_by : Option HeldBlock → Deed → Option Need
+returned_by held (deed.replaces need words place) = need_held held
+returned_by held deed.frees = need_held held
+returned_by held done = None
+
+-- an operation that is not filling, is given no block and frees none
+abbrev pub IsStill : Op → Outcome → Type 0
+IsStill (op.Alloc r need v) (outcome.Given words place) = ⊥
+IsStill (op.Free r) outcome.Freed = ⊥
+IsStill (op.Fill r v) outcome.Filled = ⊥
+IsStill (op.Resize r need) (outcome.Resized words place) = ⊥
+IsStill operation result = Unit {0}
+
+-- an operation does what it does where the lane is computed on its own; and where it is still, it makes no event, and leaves the registers there
+pub record IsSerialRow (registers : List (Option HeldBlock)) (filled : List (Option Filled)) (now : Option Filled) (operation : Op) (result : Outcome) (piece : List Event) : Type 0 where
   pub alike : IsAlike (registers_after registers operation result) (serial_step filled now operation)
-  pub outcome_is : without_place result ≡ serial_outcome now operation
+  pub outcome_is : IsSummedFor now operation result → without_place result ≡ serial_outcome now operation
+  pub asks : asked now operation ≡ asked_by (deed_of operation result)
+  pub returns : returned now operation ≡ returned_by (held_in registers (register_of operation)) (deed_of operation result)
+  pub quiet : IsStill operation result → (piece ≡ []) × (serial_step filled now operation ≡ filled)
 
 alloc-serial :
     (setting : Setting) (position : Position) (filled : List (Option Filled)) (r need v : ℕ) (held : Option HeldBlock) (result : Outcome) (now : Option Filled)
     (piece : List Event) → words_held held ≡ words_filled now → IsAlike position.registers filled → IsAnswered result
-    → AllocRow setting position need v held result piece → IsSerialRow position.registers filled now (op.Alloc r need v) result
-alloc-serial setting position filled r need v (Some held) outcome.Skipped (Some now) piece same alike answered row = record { alike = alike; outcome_is = refl }
+    → AllocRow setting position need v held result piece → IsSerialRow position.registers filled now (op.Alloc r need v) result piece
+alloc-serial setting position filled r need v (Some held) outcome.Skipped (Some now) piece same alike answered row = record { alike = alike; outcome_is = λ summed. refl; asks = refl; returns = refl; quiet = λ still. (row, refl) }
 alloc-serial setting position filled r need v (Some held) outcome.Skipped None piece same alike answered row = mismatch held _ same
 alloc-serial setting position filled r need v None (outcome.Given words place) None piece same alike answered row =
     record {
@@ -157,7 +185,10 @@ alloc-serial setting position filled r need v None (outcome.Given words place) N
           alike-set position.registers filled r (Some (record { place = place; words = words; need = need_of need }))
           (Some (record { need = need_of need; numbers = numbers_from v (usable_words (need_of need)) }))
           (ap Some (row.1 ∙ sym (from-length v (usable_words (need_of need))))) refl alike;
-      outcome_is = ap (λ n. outcome.Given n 0) row.1;
+      outcome_is = λ summed. ap (λ n. outcome.Given n 0) row.1;
+      asks = refl;
+      returns = refl;
+      quiet = λ still. absurd still;
     }
 alloc-serial setting position filled r need v None (outcome.Given words place) (Some now) piece same alike answered row = mismatch_too now _ same
 alloc-serial setting position filled r need v None outcome.Refused now piece same alike answered row = absurd answered
@@ -166,14 +197,20 @@ alloc-serial setting position filled r need v held result now piece same alike a
 
 free-serial :
     (setting : Setting) (position : Position) (filled : List (Option Filled)) (r : ℕ) (held : Option HeldBlock) (result : Outcome) (now : Option Filled)
-    (piece : List Event) → words_held held ≡ words_filled now → IsAlike position.registers filled → FreeRow setting held result piece
-    → IsSerialRow position.registers filled now (op.Free r) result
-free-serial setting position filled r None outcome.Skipped None piece same alike row = record { alike = alike; outcome_is = refl }
-free-serial setting position filled r None outcome.Skipped (Some now) piece same alike row = mismatch_too now _ same
-free-serial setting position filled r (Some held) outcome.Freed (Some now) piece same alike row =
-    record { alike = alike-set position.registers filled r None None refl refl alike; outcome_is = refl }
-free-serial setting position filled r (Some held) outcome.Freed None piece same alike row = mismatch held _ same
-free-serial setting position filled r held result now piece same alike row = absurd row
+    (piece : List Event) → words_held held ≡ words_filled now → need_held (held_in position.registers r) ≡ need_filled now → IsAlike position.registers filled → FreeRow setting held result piece
+    → IsSerialRow position.registers filled now (op.Free r) result piece
+free-serial setting position filled r None outcome.Skipped None piece same needs alike row = record { alike = alike; outcome_is = λ summed. refl; asks = refl; returns = refl; quiet = λ still. (row, refl) }
+free-serial setting position filled r None outcome.Skipped (Some now) piece same needs alike row = mismatch_too now _ same
+free-serial setting position filled r (Some held) outcome.Freed (Some now) piece same needs alike row =
+    record {
+      alike = alike-set position.registers filled r None None refl refl alike;
+      outcome_is = λ summed. refl;
+      asks = refl;
+      returns = sym needs;
+      quiet = λ still. absurd still;
+    }
+free-serial setting position filled r (Some held) outcome.Freed None piece same needs alike row = mismatch held _ same
+free-serial setting position filled r held result now piece same needs alike row = absurd row
 
 -- a register that is set to what it holds already
 alike-same :
@@ -195,24 +232,24 @@ alike-same registers filled r v now there alike =
 fill-serial :
     (setting : Setting) (position : Position) (filled : List (Option Filled)) (r v : ℕ) (held : Option HeldBlock) (result : Outcome) (now : Option Filled)
     (piece : List Event) → words_held held ≡ words_filled now → slice_index_or filled r None ≡ now → IsAlike position.registers filled
-    → FillRow setting v held result piece → IsSerialRow position.registers filled now (op.Fill r v) result
-fill-serial setting position filled r v None outcome.Skipped None piece same there alike row = record { alike = alike; outcome_is = refl }
+    → FillRow setting v held result piece → IsSerialRow position.registers filled now (op.Fill r v) result piece
+fill-serial setting position filled r v None outcome.Skipped None piece same there alike row = record { alike = alike; outcome_is = λ summed. refl; asks = refl; returns = refl; quiet = λ still. (row, refl) }
 fill-serial setting position filled r v None outcome.Skipped (Some now) piece same there alike row = mismatch_too now _ same
 fill-serial setting position filled r v (Some held) outcome.Filled (Some now) piece same there alike row =
-    record { alike = alike-same position.registers filled r v now there alike; outcome_is = refl }
+    record { alike = alike-same position.registers filled r v now there alike; outcome_is = λ summed. refl; asks = refl; returns = refl; quiet = λ still. absurd still }
 fill-serial setting position filled r v (Some held) outcome.Filled None piece same there alike row = mismatch held _ same
 fill-serial setting position filled r v held result now piece same there alike row = absurd row
 
 check-serial :
     (setting : Setting) (position : Position) (filled : List (Option Filled)) (r : ℕ) (held : Option HeldBlock) (result : Outcome) (now : Option Filled)
-    (piece : List Event) → words_held held ≡ words_filled now → IsAlike position.registers filled → IsSummed now result
-    → CheckRow setting position held result piece → IsSerialRow position.registers filled now (op.Check r) result
-check-serial setting position filled r None outcome.Skipped None piece same alike summed row = record { alike = alike; outcome_is = refl }
-check-serial setting position filled r None outcome.Skipped (Some now) piece same alike summed row = mismatch_too now _ same
-check-serial setting position filled r (Some held) (outcome.Sum total) (Some now) piece same alike summed row =
-    record { alike = alike; outcome_is = ap outcome.Sum summed }
-check-serial setting position filled r (Some held) (outcome.Sum total) None piece same alike summed row = mismatch held _ same
-check-serial setting position filled r held result now piece same alike summed row = absurd row
+    (piece : List Event) → words_held held ≡ words_filled now → IsAlike position.registers filled
+    → CheckRow setting position held result piece → IsSerialRow position.registers filled now (op.Check r) result piece
+check-serial setting position filled r None outcome.Skipped None piece same alike row = record { alike = alike; outcome_is = λ summed. refl; asks = refl; returns = refl; quiet = λ still. (row, refl) }
+check-serial setting position filled r None outcome.Skipped (Some now) piece same alike row = mismatch_too now _ same
+check-serial setting position filled r (Some held) (outcome.Sum total) (Some now) piece same alike row =
+    record { alike = alike; outcome_is = λ summed. ap outcome.Sum summed; asks = refl; returns = refl; quiet = λ still. (row.0, refl) }
+check-serial setting position filled r (Some held) (outcome.Sum total) None piece same alike row = mismatch held _ same
+check-serial setting position filled r held result now piece same alike row = absurd row
 
 -- whether the block of a resize moves, where the lane is computed on its own
 pub moves-not :
@@ -230,72 +267,45 @@ moves-on need held now same differ =
 
 resize-serial :
     (setting : Setting) (position : Position) (filled : List (Option Filled)) (r need : ℕ) (held : Option HeldBlock) (result : Outcome) (now : Option Filled)
-    (piece : List Event) → words_held held ≡ words_filled now → need_held held ≡ need_filled now → IsAlike position.registers filled → IsAnswered result
-    → ResizeRow setting position need held result piece → IsSerialRow position.registers filled now (op.Resize r need) result
-resize-serial setting position filled r need None outcome.Skipped None piece same same_need alike answered row = record { alike = alike; outcome_is = refl }
-resize-serial setting position filled r need None outcome.Skipped (Some now) piece same same_need alike answered row = mismatch_too now _ same
-resize-serial setting position filled r need (Some held) (outcome.Kept words place) (Some now) piece same same_need alike answered row =
+    (piece : List Event) → words_held held ≡ words_filled now → need_held held ≡ need_filled now → need_held (held_in position.registers r) ≡ need_filled now
+    → IsAlike position.registers filled → IsAnswered result → ResizeRow setting position need held result piece → IsSerialRow position.registers filled now (op.Resize r need) result piece
+resize-serial setting position filled r need None outcome.Skipped None piece same same_need needs alike answered row = record { alike = alike; outcome_is = λ summed. refl; asks = refl; returns = refl; quiet = λ still. (row, refl) }
+resize-serial setting position filled r need None outcome.Skipped (Some now) piece same same_need needs alike answered row = mismatch_too now _ same
+resize-serial setting position filled r need (Some held) (outcome.Kept words place) (Some now) piece same same_need needs alike answered row =
     let stays = moves-not need held now same_need row.1 in
     let many : words ≡ length now.numbers = row.2 ∙ (let e : Some held.words ≡ Some (length now.numbers) = same in cc) in
-    record { alike = rw stays alike; outcome_is = rw stays (ap (λ n. outcome.Kept n 0) many) }
-resize-serial setting position filled r need (Some held) (outcome.Resized words place) (Some now) piece same same_need alike answered row =
+    record { alike = rw stays alike; outcome_is = λ summed. rw stays (ap (λ n. outcome.Kept n 0) many); asks = rw stays refl; returns = rw stays refl; quiet = λ still. (row.0, rw stays refl) }
+resize-serial setting position filled r need (Some held) (outcome.Resized words place) (Some now) piece same same_need needs alike answered row =
     let goes = moves-on need held now same_need row.0 in
     let set : IsAlike (slice_set position.registers r (Some (record { place = place; words = words; need = need_of need })))
     (slice_set filled r (Some (moved_to need now))) =
     alike-set position.registers filled r (Some (record { place = place; words = words; need = need_of need })) (Some (moved_to need now))
     (ap Some (row.2 ∙ sym (copied-length now.numbers (usable_words (need_of need))))) refl alike in
-    record { alike = rw goes set; outcome_is = rw goes (ap (λ n. outcome.Resized n 0) row.2) }
-resize-serial setting position filled r need (Some held) (outcome.Kept words place) None piece same same_need alike answered row = mismatch held _ same
-resize-serial setting position filled r need (Some held) (outcome.Resized words place) None piece same same_need alike answered row = mismatch held _ same
-resize-serial setting position filled r need held outcome.Refused now piece same same_need alike answered row = absurd answered
-resize-serial setting position filled r need held outcome.Spent now piece same same_need alike answered row = absurd answered
-resize-serial setting position filled r need held result now piece same same_need alike answered row = absurd row
+    record { alike = rw goes set; outcome_is = λ summed. rw goes (ap (λ n. outcome.Resized n 0) row.2); asks = rw goes refl; returns = rw goes (sym needs); quiet = λ still. absurd still }
+resize-serial setting position filled r need (Some held) (outcome.Kept words place) None piece same same_need needs alike answered row = mismatch held _ same
+resize-serial setting position filled r need (Some held) (outcome.Resized words place) None piece same same_need needs alike answered row = mismatch held _ same
+resize-serial setting position filled r need held outcome.Refused now piece same same_need needs alike answered row = absurd answered
+resize-serial setting position filled r need held outcome.Spent now piece same same_need needs alike answered row = absurd answered
+resize-serial setting position filled r need held result now piece same same_need needs alike answered row = absurd row
 
 -- a plain operation does what it does where the lane is computed on its own
 pub row-serial :
     (setting : Setting) (position : Position) (filled : List (Option Filled)) (operation : Op) (result : Outcome) (piece : List Event) → IsPlain operation
-    → IsAlike position.registers filled → IsAnswered result → IsSummedAt filled operation result
-    → FitsRow setting position operation result piece → IsSerialRow position.registers filled (filled_in filled operation) operation result
-row-serial setting position filled (op.Alloc r need v) result piece plain alike answered summed row =
+    → IsAlike position.registers filled → IsAnswered result → FitsRow setting position operation result piece → IsSerialRow position.registers filled (filled_in filled operation) operation result piece
+row-serial setting position filled (op.Alloc r need v) result piece plain alike answered row =
     alloc-serial setting position filled r need v (held_in position.registers r) result (slice_index_or filled r None) piece
     (alike-at position.registers filled r alike) alike answered row
-row-serial setting position filled (op.Free r) result piece plain alike answered summed row =
+row-serial setting position filled (op.Free r) result piece plain alike answered row =
     free-serial setting position filled r (held_in position.registers r) result (slice_index_or filled r None) piece
-    (alike-at position.registers filled r alike) alike row
-row-serial setting position filled (op.Fill r v) result piece plain alike answered summed row =
+    (alike-at position.registers filled r alike) (need-at position.registers filled r alike) alike row
+row-serial setting position filled (op.Fill r v) result piece plain alike answered row =
     fill-serial setting position filled r v (held_in position.registers r) result (slice_index_or filled r None) piece
     (alike-at position.registers filled r alike) refl alike row
-row-serial setting position filled (op.Check r) result piece plain alike answered summed row =
+row-serial setting position filled (op.Check r) result piece plain alike answered row =
     check-serial setting position filled r (held_in position.registers r) result (slice_index_or filled r None) piece
-    (alike-at position.registers filled r alike) alike summed row
-row-serial setting position filled (op.Resize r need) result piece plain alike answered summed row =
+    (alike-at position.registers filled r alike) alike row
+row-serial setting position filled (op.Resize r need) result piece plain alike answered row =
     resize-serial setting position filled r need (held_in position.registers r) result (slice_index_or filled r None) piece
-    (alike-at position.registers filled r alike) (need-at position.registers filled r alike) alike answered row
-row-serial setting position filled (op.Put r shelf) result piece plain alike answered summed row = absurd plain
-row-serial setting position filled (op.Take r shelf) result piece plain alike answered summed row = absurd plain
-
--- a check leaves the registers of a lane computed on its own
-pub step-check : (filled : List (Option Filled)) (now : Option Filled) (r : ℕ) → filled ≡ serial_step filled now (op.Check r)
-step-check filled None r = refl
-step-check filled (Some now) r = refl
-
-pub row-alike :
-    (setting : Setting) (position : Position) (filled : List (Option Filled)) (operation : Op) (result : Outcome) (piece : List Event) → IsPlain operation
-    → IsAlike position.registers filled → IsAnswered result → FitsRow setting position operation result piece
-    → IsAlike (registers_after position.registers operation result) (serial_after filled operation)
-row-alike setting position filled (op.Alloc r need v) result piece plain alike answered row =
-    (alloc-serial setting position filled r need v (held_in position.registers r) result (slice_index_or filled r None) piece
-    (alike-at position.registers filled r alike) alike answered row).alike
-row-alike setting position filled (op.Free r) result piece plain alike answered row =
-    (free-serial setting position filled r (held_in position.registers r) result (slice_index_or filled r None) piece
-    (alike-at position.registers filled r alike) alike row).alike
-row-alike setting position filled (op.Fill r v) result piece plain alike answered row =
-    (fill-serial setting position filled r v (held_in position.registers r) result (slice_index_or filled r None) piece
-    (alike-at position.registers filled r alike) refl alike row).alike
-row-alike setting position filled (op.Check r) result piece plain alike answered row =
-    subst (IsAlike position.registers) (step-check filled (slice_index_or filled r None) r) alike
-row-alike setting position filled (op.Resize r need) result piece plain alike answered row =
-    (resize-serial setting position filled r need (held_in position.registers r) result (slice_index_or filled r None) piece
-    (alike-at position.registers filled r alike) (need-at position.registers filled r alike) alike answered row).alike
-row-alike setting position filled (op.Put r shelf) result piece plain alike answered row = absurd plain
-row-alike setting position filled (op.Take r shelf) result piece plain alike answered row = absurd plain
+    (alike-at position.registers filled r alike) (need-at position.registers filled r alike) (need-at position.registers filled r alike) alike answered row
+row-serial setting position filled (op.Put r shelf) result piece plain alike answered row = absurd plain
+row-serial setting position filled (op.Take r shelf) result piece plain alike answered row = absurd plain

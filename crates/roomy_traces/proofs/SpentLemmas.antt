@@ -1,5 +1,5 @@
 -- No lane of a roomy trace runs out of turns.
-use Rattle.std.proofs.Common.{ℕ, Bool, true, false, eqb, cond, get_or, sum_by, count_by, ◌≡◌, ◌+◌, ◌<◌, ◌≤◌, List, [], ◌∷◌, Option, Some, None, length, refl, ◌∙◌, ap, subst, inl, inr, arith, zero-add}
+use Rattle.std.proofs.Common.{suc, if◌then◌else◌, ℕ, Bool, true, false, eqb, cond, get_or, sum_by, count_by, ◌≡◌, ◌+◌, ◌<◌, ◌≤◌, List, [], ◌∷◌, length, refl, ◌∙◌, ap, subst, inl, inr, arith, zero-add}
 use Rattle.std.specs.List.{AllByRecursion}
 use Rattle.std.proofs.lemmas.Bool.{cases_Bool}
 use Rattle.std.proofs.lemmas.List.Sums.{sum_by-cons, sum_by-le-sum_by}
@@ -10,26 +10,49 @@ use Rattle.pool_model.specs.Counts.{is_alloc}
 use Rattle.pool_model.specs.Histories.{caller_of, own, Begins}
 use Rattle.trace_text.specs.declared.trace.Op.{Op}
 use Rattle.trace_text.specs.declared.trace.Op.TheVariants as op
-use Rattle.lane_outcomes.specs.declared.registers.HeldBlock.{HeldBlock}
+use Rattle.lane_outcomes.specs.Deeds.{Deed, deed_of, given_by, register_of}
+use Rattle.lane_outcomes.specs.Deeds as deed
 use Rattle.lane_outcomes.specs.declared.outcome.Outcome.{Outcome}
 use Rattle.lane_outcomes.specs.declared.outcome.Outcome.TheVariants as outcome
-use Rattle.lane_outcomes.specs.Lane.{Position, held_in, is_small, answered_after, spent_after}
+use Rattle.lane_outcomes.specs.Lane.{answered_with, Position, held_in, is_small, answered_after, spent_after}
 use Rattle.lane_outcomes.specs.LaneCounts.{words_given, count_with, as_one}
-use Rattle.lane_outcomes.specs.Rows.{Setting, IsSpent, AllocRow, FreeRow, FillRow, CheckRow, ResizeRow, FitsRow, gives_another_small}
+use Rattle.lane_outcomes.specs.Rows.{Setting, IsSpent, FitsRow, gives_another_small}
 use Rattle.lane_outcomes.proofs.TallyLemmas.{sum_from}
-use Rattle.roomy_traces.specs.Roomy.{IsPlain, may_allocate}
+use Rattle.lane_outcomes.proofs.SlotRows.{row-spent}
+use Rattle.roomy_traces.specs.Roomy.{may_allocate}
 use Rattle.roomy_traces.proofs.LaneLemmas.{sum-lanes_but, by-caller}
 
 -- what an operation asks for: one block, or none
 abbrev pub asks : Op → ℕ
 asks operation = cond (may_allocate operation) 1 0
 
+-- only such an operation asks for a block, whatever came of that
+abbrev allocates : Deed → ℕ
+allocates (deed.gives need v words place) = 1
+allocates (deed.replaces need words place) = 1
+allocates (deed.refuses need) = 1
+allocates (deed.spends need) = 1
+allocates done = 0
+
+allocates-asked : (operation : Op) (result : Outcome) → allocates (deed_of operation result) ≤ asks operation
+allocates-asked (op.Alloc r need v) (outcome.Given words place) = omega arith
+allocates-asked (op.Alloc r need v) outcome.Refused = omega arith
+allocates-asked (op.Alloc r need v) outcome.Spent = omega arith
+allocates-asked (op.Resize r need) (outcome.Resized words place) = omega arith
+allocates-asked (op.Resize r need) outcome.Refused = omega arith
+allocates-asked (op.Resize r need) outcome.Spent = omega arith
+allocates-asked (op.Free r) outcome.Freed = omega arith
+allocates-asked (op.Put r shelf) outcome.Put = omega arith
+allocates-asked (op.Take r shelf) (outcome.Took words place need) = omega arith
+allocates-asked operation result = omega arith
+
+given-by : (done : Deed) → count_with as_one (given_by done) ≤ allocates done
+given-by (deed.gives need v words place) = omega arith
+given-by (deed.replaces need words place) = omega arith
+given-by done = omega arith
+
 pub given-asked : (operation : Op) (result : Outcome) → count_with as_one (words_given operation result) ≤ asks operation
-given-asked (op.Alloc r need v) (outcome.Given words place) = omega arith
-given-asked (op.Alloc r need v) result = omega arith
-given-asked (op.Resize r need) (outcome.Resized words place) = omega arith
-given-asked (op.Resize r need) result = omega arith
-given-asked operation result = omega arith
+given-asked operation result = omega (arith, given-by (deed_of operation result), allocates-asked operation result)
 
 -- an outcome that isn't want of a turn
 abbrev pub IsUnspent : Outcome → Type 0
@@ -40,18 +63,18 @@ pub spent-stays : (spent : Bool) (result : Outcome) → IsUnspent result → spe
 spent-stays spent outcome.Spent unspent = absurd unspent
 spent-stays spent result unspent = refl
 
+one-more : (small : Bool) (answered : ℕ) → (if small then suc answered else answered) ≤ answered + 1
+one-more true answered = omega arith
+one-more false answered = omega arith
+
+answered-by : (answered : ℕ) (done : Deed) → answered_with answered done ≤ answered + allocates done
+answered-by answered (deed.gives need v words place) = one-more (is_small (need_of need)) answered
+answered-by answered (deed.replaces need words place) = one-more (is_small (need_of need)) answered
+answered-by answered (deed.refuses need) = one-more (is_small (need_of need)) answered
+answered-by answered done = omega arith
+
 pub answered-step : (answered : ℕ) (operation : Op) (result : Outcome) → answered_after answered operation result ≤ answered + asks operation
-answered-step answered (op.Alloc r need v) (outcome.Given words place) =
-    elim (cases_Bool (is_small (need_of need))) [ inl small ↦ rw small (omega arith) | inr large ↦ rw large (omega arith) ]
-answered-step answered (op.Alloc r need v) outcome.Refused =
-    elim (cases_Bool (is_small (need_of need))) [ inl small ↦ rw small (omega arith) | inr large ↦ rw large (omega arith) ]
-answered-step answered (op.Alloc r need v) result = omega arith
-answered-step answered (op.Resize r need) (outcome.Resized words place) =
-    elim (cases_Bool (is_small (need_of need))) [ inl small ↦ rw small (omega arith) | inr large ↦ rw large (omega arith) ]
-answered-step answered (op.Resize r need) outcome.Refused =
-    elim (cases_Bool (is_small (need_of need))) [ inl small ↦ rw small (omega arith) | inr large ↦ rw large (omega arith) ]
-answered-step answered (op.Resize r need) result = omega arith
-answered-step answered operation result = omega arith
+answered-step answered operation result = omega (arith, answered-by answered (deed_of operation result), allocates-asked operation result)
 
 -- at most so many small blocks are given to others, at any moment
 abbrev pub AreFewOthers : Setting → ℕ → Type 0
@@ -64,52 +87,15 @@ spent-not setting position others need piece few room fresh row =
     let spent : IsSpent setting position need piece false = subst (IsSpent setting position need piece) fresh row in
     absurd (omega (arith, room, spent.3, few spent.2.before spent.2.begins))
 
-alloc-unspent :
-    (setting : Setting) (position : Position) (others need v : ℕ) (held : Option HeldBlock) (result : Outcome) (piece : List Event) → AreFewOthers setting others
-    → position.answered + 1 + others ≤ setting.turn_limit → position.spent ≡ false → AllocRow setting position need v held result piece → IsUnspent result
-alloc-unspent setting position others need v None outcome.Spent piece few room fresh row =
-    spent-not setting position others need piece few room fresh row
-alloc-unspent setting position others need v (Some held) outcome.Spent piece few room fresh row = absurd row
-alloc-unspent setting position others need v held result piece few room fresh row = tt
-
-free-unspent : (setting : Setting) (held : Option HeldBlock) (result : Outcome) (piece : List Event) → FreeRow setting held result piece → IsUnspent result
-free-unspent setting None outcome.Spent piece row = absurd row
-free-unspent setting (Some held) outcome.Spent piece row = absurd row
-free-unspent setting held result piece row = tt
-
-fill-unspent : (setting : Setting) (v : ℕ) (held : Option HeldBlock) (result : Outcome) (piece : List Event) → FillRow setting v held result piece → IsUnspent result
-fill-unspent setting v None outcome.Spent piece row = absurd row
-fill-unspent setting v (Some held) outcome.Spent piece row = absurd row
-fill-unspent setting v held result piece row = tt
-
-check-unspent :
-    (setting : Setting) (position : Position) (held : Option HeldBlock) (result : Outcome) (piece : List Event) → CheckRow setting position held result piece
-    → IsUnspent result
-check-unspent setting position None outcome.Spent piece row = absurd row
-check-unspent setting position (Some held) outcome.Spent piece row = absurd row
-check-unspent setting position held result piece row = tt
-
-resize-unspent :
-    (setting : Setting) (position : Position) (others need : ℕ) (held : Option HeldBlock) (result : Outcome) (piece : List Event) → AreFewOthers setting others
-    → position.answered + 1 + others ≤ setting.turn_limit → position.spent ≡ false → ResizeRow setting position need held result piece → IsUnspent result
-resize-unspent setting position others need (Some held) outcome.Spent piece few room fresh row =
-    spent-not setting position others need piece few room fresh row.1
-resize-unspent setting position others need None outcome.Spent piece few room fresh row = absurd row
-resize-unspent setting position others need held result piece few room fresh row = tt
-
 pub row-unspent :
-    (setting : Setting) (position : Position) (others : ℕ) (operation : Op) (result : Outcome) (piece : List Event) → IsPlain operation
+    (setting : Setting) (position : Position) (others : ℕ) (operation : Op) (result : Outcome) (piece : List Event)
     → AreFewOthers setting others → position.answered + asks operation + others ≤ setting.turn_limit → position.spent ≡ false
     → FitsRow setting position operation result piece → IsUnspent result
-row-unspent setting position others (op.Alloc r need v) result piece plain few room fresh row =
-    alloc-unspent setting position others need v (held_in position.registers r) result piece few room fresh row
-row-unspent setting position others (op.Free r) result piece plain few room fresh row = free-unspent setting (held_in position.registers r) result piece row
-row-unspent setting position others (op.Fill r v) result piece plain few room fresh row = fill-unspent setting v (held_in position.registers r) result piece row
-row-unspent setting position others (op.Check r) result piece plain few room fresh row = check-unspent setting position (held_in position.registers r) result piece row
-row-unspent setting position others (op.Resize r need) result piece plain few room fresh row =
-    resize-unspent setting position others need (held_in position.registers r) result piece few room fresh row
-row-unspent setting position others (op.Put r shelf) result piece plain few room fresh row = absurd plain
-row-unspent setting position others (op.Take r shelf) result piece plain few room fresh row = absurd plain
+row-unspent setting position others operation outcome.Spent piece few room fresh row =
+    let (need, is, spent) = row-spent setting position piece operation (held_in position.registers (register_of operation)) row in
+    let asked : 1 ≤ asks operation = subst (λ done. allocates done ≤ asks operation) is (allocates-asked operation outcome.Spent) in
+    spent-not setting position others need piece few (omega (arith, room, asked)) fresh spent
+row-unspent setting position others operation result piece few room fresh row = tt
 
 -- a caller's own events are its own, and give no block to another
 own-hers : (caller : ℕ) (events : List Event) → AllByRecursion (λ event. eqb (caller_of event) caller ≡ true) (own caller events)

@@ -8,8 +8,9 @@ use Rattle.heap_geometry.specs.Need.{need_of, usable_words}
 use Rattle.heap_geometry.specs.declared.limits.TheConstants.{CLASSES, SMALL_MOST}
 use Rattle.trace_text.specs.declared.limits.TheConstants.{REGISTERS}
 use Rattle.trace_text.specs.declared.trace.Op.{Op}
-use Rattle.trace_text.specs.declared.trace.Op.TheVariants.{Alloc, Free, Fill, Check, Put, Take, Resize}
+use Rattle.trace_text.specs.declared.trace.Op.TheVariants.{Alloc, Free, Fill, Put, Take, Resize}
 use Rattle.trace_text.specs.declared.trace.Trace.{Trace}
+use Rattle.lane_outcomes.specs.Deeds.{register_of}
 use Rattle.lane_outcomes.specs.LaneCounts.{as_one, count_with}
 
 -- a block that a lane holds: the need that it serves, and the number in each of its usable words
@@ -31,16 +32,6 @@ is_same (Small class) (Small other) = class == other
 is_same (Large units) (Large other) = units == other
 is_same TooLarge TooLarge = true
 is_same need other = false
-
--- the register of an operation
-abbrev pub register_of : Op → ℕ
-register_of (Alloc r need v) = r
-register_of (Free r) = r
-register_of (Fill r v) = r
-register_of (Check r) = r
-register_of (Put r shelf) = r
-register_of (Take r shelf) = r
-register_of (Resize r need) = r
 
 -- what the register of an operation holds
 abbrev pub filled_in : List (Option Filled) → Op → Option Filled

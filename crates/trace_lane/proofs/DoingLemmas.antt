@@ -22,7 +22,7 @@ use Rattle.lane_outcomes.specs.Lane.{held_in, registers_after}
 use Rattle.trace_lane.specs.Advances.{AnswersCall, IsShort, behind, total_with, word_behind}
 use Rattle.trace_lane.specs.declared.stage.OperationStage.{OperationStage}
 use Rattle.trace_lane.specs.declared.stage.OperationStage.TheVariants as stage
-use Rattle.trace_lane.specs.Doing.{DoingOf, IsReadFor, IsReplacing, call_at, fills, frees, held_of, held_there, reads, replacing}
+use Rattle.trace_lane.specs.Doing.{DoingOf, IsInside, IsReadFor, IsReplacing, call_at, fills, frees, held_of, held_there, reads, replacing}
 use Rattle.trace_lane.specs.Made.{MadeFor, OnBlock}
 use Rattle.trace_lane.specs.Paths.{held_by}
 use Rattle.trace_lane.specs.Scripts.{stage_begun}
@@ -95,18 +95,38 @@ module _ {B : Type 0} (place_of : B → ℕ) (block_need : B → Need) (before r
   alloc-given r need v block (stage.Filling i) made doing a = absurd a
   alloc-given r need v block at made doing a = absurd doing
 
-  -- the calls of an allocation with the write of one word more
-  given-more :
-      (need v place i : ℕ) (made : List Made) (held : HeldBlock)
-      → held ≡ held_of place (need_of need) → made ≡ answered (alloc need) (reply.Given place (need_of need)) ∷ wrote place (need_of need) v i
-      → with_answer made (fills held v i) reply.Wrote
-      ≡ answered (alloc need) (reply.Given place (need_of need)) ∷ wrote place (need_of need) v (i + 1)
-  given-more need v place i made held is made_is =
-      ap (λ ms. with_answer ms (fills held v i) reply.Wrote) made_is
-      ∙ ap
-      (λ (h : HeldBlock).
-      with_answer (answered (alloc need) (reply.Given place (need_of need)) ∷ wrote place (need_of need) v i) (fills h v i) reply.Wrote) is
-      ∙ ap (λ ms. answered (alloc need) (reply.Given place (need_of need)) ∷ ms) (sym (wrote-more place (need_of need) v i))
+  -- a word more of a block is written, behind other calls
+  wrote-one :
+      (first : List Made) (h held : HeldBlock) (v i : ℕ) (made : List Made) → h ≡ held → made ≡ first ++ wrote held.place held.need v i
+      → with_answer made (fills h v i) reply.Wrote ≡ first ++ wrote held.place held.need v (i + 1)
+  wrote-one first h held v i made same made_is =
+      ap (λ (x : HeldBlock). with_answer made (fills x v i) reply.Wrote) same ∙ ap (λ ms. with_answer ms (fills held v i) reply.Wrote) made_is
+      ∙ append_assoc first (wrote held.place held.need v i) (answered (fills held v i) reply.Wrote ∷ [])
+      ∙ ap (λ ms. first ++ ms) (sym (wrote-more held.place held.need v i))
+
+  -- and it is not the last one, or it is
+  wrote-on :
+      (first : List Made) (h held : HeldBlock) (v i next : ℕ) (made : List Made) → h ≡ held → made ≡ first ++ wrote held.place held.need v i
+      → Some next ≡ behind i h.words
+      → (with_answer made (fills h v i) reply.Wrote ≡ first ++ wrote held.place held.need v next) × IsInside next held.words
+      × (stage_begun (stage.Filling i) < stage_begun (stage.Filling next))
+  wrote-on first h held v i next made same made_is found =
+      let is = behind-some i h.words next found in
+      let words : h.words ≡ held.words = ap (λ (x : HeldBlock). x.words) same in (
+        wrote-one first h held v i made same made_is ∙ ap (λ n. first ++ wrote held.place held.need v n) (sym is.0),
+        λ positive. omega (arith, is.0, is.1, words),
+        omega (arith, is.0),
+      )
+
+  wrote-ends :
+      (first : List Made) (h held : HeldBlock) (v i : ℕ) (made : List Made) → h ≡ held → held.words ≡ usable_words held.need
+      → made ≡ first ++ wrote held.place held.need v i → i < usable_words h.need → None ≡ behind i h.words
+      → with_answer made (fills h v i) reply.Wrote ≡ first ++ wrote held.place held.need v held.words
+  wrote-ends first h held v i made same serves made_is inside found =
+      let words : h.words ≡ held.words = ap (λ (x : HeldBlock). x.words) same in
+      let below : i < usable_words held.need = subst (λ (x : HeldBlock). i < usable_words x.need) same inside in
+      wrote-one first h held v i made same made_is
+      ∙ ap (λ n. first ++ wrote held.place held.need v n) (let last : i + 1 ≡ held.words = omega (arith, behind-none i h.words found, below, words, serves) in last)
 
   pub alloc-on :
       (r need v next : ℕ) (at : OperationStage) (made : List Made) → r < length registers
@@ -116,19 +136,11 @@ module _ {B : Type 0} (place_of : B → ℕ) (block_need : B → Need) (before r
       (with_answer made (call_at before registers (op.Alloc r need v) at) reply.Wrote)
       × (stage_begun at < stage_begun (stage.Filling next))
   alloc-on r need v next (stage.Filling i) made within (place, none, set, inside, made_is) a found =
-      let there = ap held_there (set-there before registers r (held_of place (need_of need)) within set) in
-      let is = behind-some i (held_there (held_in registers r)).words next found in
-      let words : (held_there (held_in registers r)).words ≡ usable_words (need_of need) = ap (λ (h : HeldBlock). h.words) there in (
-        (
-          place,
-          none,
-          set,
-          λ positive. omega (arith, is.0, is.1, words),
-          given-more need v place i made (held_there (held_in registers r)) there made_is
-              ∙ ap (λ n. answered (alloc need) (reply.Given place (need_of need)) ∷ wrote place (need_of need) v n) (sym is.0),
-        ),
-        omega (arith, is.0),
-      )
+      let new = held_of place (need_of need) in
+      let on =
+      wrote-on (answered (alloc need) (reply.Given place (need_of need)) ∷ []) (held_there (held_in registers r)) new v i next made
+      (ap held_there (set-there before registers r new within set)) made_is found in
+      ((place, none, set, on.1, on.0), on.2)
   alloc-on r need v next stage.Calling made within doing a found = absurd a
   alloc-on r need v next at made within doing a found = absurd doing
 
@@ -140,15 +152,15 @@ module _ {B : Type 0} (place_of : B → ℕ) (block_need : B → Need) (before r
       (with_answer made (call_at before registers (op.Alloc r need v) at) reply.Wrote)
       × (registers ≡ registers_after before (op.Alloc r need v) (outcome.Given words place))
   alloc-ends r need v words place (stage.Filling i) made within (lies, none, set, inside, made_is) a found words_are place_is =
-      let there = ap held_there (set-there before registers r (held_of lies (need_of need)) within set) in
+      let new = held_of lies (need_of need) in
+      let there = ap held_there (set-there before registers r new within set) in
       let words_so : words ≡ usable_words (need_of need) = words_are ∙ ap (λ (h : HeldBlock). h.words) there in
       let place_so : place ≡ lies = place_is ∙ ap (λ (h : HeldBlock). h.place) there in
-      let a_so : i < usable_words (need_of need) = subst (λ (h : HeldBlock). i < usable_words h.need) there a in
-      let last : i + 1 ≡ words = let most = behind-none i words found in omega (arith, most, a_so, words_so) in
       let calls = with_answer made (fills (held_there (held_in registers r)) v i) reply.Wrote in
       let calls_so : calls ≡ answered (alloc need) (reply.Given place (need_of need)) ∷ wrote place (need_of need) v words =
-      given-more need v lies i made (held_there (held_in registers r)) there made_is
-      ∙ ap (λ n. answered (alloc need) (reply.Given lies (need_of need)) ∷ wrote lies (need_of need) v n) last
+      wrote-ends (answered (alloc need) (reply.Given lies (need_of need)) ∷ []) (held_there (held_in registers r)) new v i made there refl made_is a
+      (found ∙ ap (behind i) words_are)
+      ∙ ap (λ n. answered (alloc need) (reply.Given lies (need_of need)) ∷ wrote lies (need_of need) v n) (sym words_so)
       ∙ ap (λ p. answered (alloc need) (reply.Given p (need_of need)) ∷ wrote p (need_of need) v words) (sym place_so) in (
         subst (λ slot. MadeFor slot (op.Alloc r need v) (outcome.Given words place) calls) (sym none) (words_so, calls_so),
         set ∙ ap (λ (h : HeldBlock). slice_set before r (Some h))
@@ -166,16 +178,10 @@ module _ {B : Type 0} (place_of : B → ℕ) (block_need : B → Need) (before r
       × (stage_begun at < stage_begun (stage.Filling next))
   fill-on r v next (stage.Filling i) made doing found =
       let on = on-block (held_in before r) _ doing in
-      let there : held_there (held_in registers r) ≡ on.held = ap (λ rs. held_there (held_in rs r)) on.so.0 ∙ ap held_there on.full in
-      let is = behind-some i (held_there (held_in registers r)).words next found in
-      let words : (held_there (held_in registers r)).words ≡ on.held.words = ap (λ (h : HeldBlock). h.words) there in
-      let calls_so : with_answer made (fills (held_there (held_in registers r)) v i) reply.Wrote ≡ wrote on.held.place on.held.need v next =
-      ap (λ (h : HeldBlock). with_answer made (fills h v i) reply.Wrote) there
-      ∙ ap (λ ms. with_answer ms (fills on.held v i) reply.Wrote) on.so.2
-      ∙ sym (wrote-more on.held.place on.held.need v i) ∙ ap (λ n. wrote on.held.place on.held.need v n) (sym is.0) in (
-        rw on.full (on.words, (on.so.0, λ positive. omega (arith, is.0, is.1, words), calls_so)),
-        omega (arith, is.0),
-      )
+      let more =
+      wrote-on [] (held_there (held_in registers r)) on.held v i next made (ap (λ rs. held_there (held_in rs r)) on.so.0 ∙ ap held_there on.full) on.so.2
+      found in
+      (rw on.full (on.words, (on.so.0, more.1, more.0)), more.2)
   fill-on r v next at made doing found = absurd doing
 
   pub fill-ends :
@@ -185,19 +191,10 @@ module _ {B : Type 0} (place_of : B → ℕ) (block_need : B → Need) (before r
       × (registers ≡ before)
   fill-ends r v (stage.Filling i) made doing a found =
       let on = on-block (held_in before r) _ doing in
-      let there : held_there (held_in registers r) ≡ on.held = ap (λ rs. held_there (held_in rs r)) on.so.0 ∙ ap held_there on.full in
-      let most = behind-none i (held_there (held_in registers r)).words found in
-      let words : (held_there (held_in registers r)).words ≡ on.held.words = ap (λ (h : HeldBlock). h.words) there in
-      let inside : i < usable_words on.held.need = subst (λ (h : HeldBlock). i < usable_words h.need) there a in
-      let last : i + 1 ≡ on.held.words = let w = on.words in omega (arith, most, inside, words, w) in
-      let calls = with_answer made (fills (held_there (held_in registers r)) v i) reply.Wrote in
-      let calls_so : calls ≡ wrote on.held.place on.held.need v on.held.words =
-      ap (λ (h : HeldBlock). with_answer made (fills h v i) reply.Wrote) there
-      ∙ ap (λ ms. with_answer ms (fills on.held v i) reply.Wrote) on.so.2
-      ∙ sym (wrote-more on.held.place on.held.need v i) ∙ ap (λ n. wrote on.held.place on.held.need v n) last in (
-        subst (λ slot. MadeFor slot (op.Fill r v) outcome.Filled calls) (sym on.full) (on.words, calls_so),
-        on.so.0,
-      )
+      let calls_so =
+      wrote-ends [] (held_there (held_in registers r)) on.held v i made (ap (λ rs. held_there (held_in rs r)) on.so.0 ∙ ap held_there on.full) on.words
+      on.so.2 a found in
+      (rw on.full (on.words, calls_so), on.so.0)
   fill-ends r v at made doing a found = absurd doing
 
   -- a check

@@ -16,13 +16,14 @@ use Rattle.trace_text.specs.declared.trace.Op.{Op}
 use Rattle.trace_text.specs.declared.trace.Op.TheVariants as op
 use Rattle.lane_engine.specs.Whole.{KeepBlocks, Maker}
 use Rattle.lane_engine.proofs.LeadsLemmas.{leads-split}
+use Rattle.lane_outcomes.specs.Deeds.{register_of}
 use Rattle.lane_outcomes.specs.declared.registers.HeldBlock.{HeldBlock}
 use Rattle.lane_outcomes.specs.declared.outcome.Outcome.{Outcome}
 use Rattle.lane_outcomes.specs.declared.outcome.Outcome.TheVariants as outcome
 use Rattle.lane_outcomes.specs.Lane.{held_in, registers_after}
 use Rattle.trace_lane.specs.declared.lane.LaneState.{LaneState}
 use Rattle.trace_lane.specs.declared.stage.OperationStage.TheVariants as stage
-use Rattle.trace_lane.specs.Made.{AllMade, AreMisses, HoldsBlocks, MadeFor, Makes, MayMake, register_of}
+use Rattle.trace_lane.specs.Made.{AllMade, AreMisses, HoldsBlocks, MadeFor, Makes, MayMake}
 use Rattle.trace_lane.specs.Paths.{held_blocks, held_by}
 use Rattle.trace_lane.specs.Scripts.{registers_from}
 use Rattle.trace_lane.proofs.EachCall.{AllCalls, Leaves, all-copied, all-found, all-misses, all-takes, all-wrote, leaves}
@@ -234,19 +235,8 @@ module _ {S : Type 0} {called : S → Call → Reply → S → Type 0} {owns : S
   op-holds c d registers (op.Resize r need) outcome.Spent (Some held) made holds is (differ, calls) leads =
       still c d registers holds made leads (λ place. subst (AllCalls (Leaves place)) (sym calls) (tt, tt))
   op-holds c d registers (op.Alloc r need v) result None made holds is calls leads = absurd calls
-  op-holds c d registers (op.Alloc r need v) result (Some held) made holds is calls leads = absurd calls
-  op-holds c d registers (op.Free r) result None made holds is calls leads = absurd calls
-  op-holds c d registers (op.Free r) result (Some held) made holds is calls leads = absurd calls
-  op-holds c d registers (op.Fill r v) result None made holds is calls leads = absurd calls
-  op-holds c d registers (op.Fill r v) result (Some held) made holds is calls leads = absurd calls
-  op-holds c d registers (op.Check r) result None made holds is calls leads = absurd calls
-  op-holds c d registers (op.Check r) result (Some held) made holds is calls leads = absurd calls
-  op-holds c d registers (op.Put r shelf) result None made holds is calls leads = absurd calls
-  op-holds c d registers (op.Put r shelf) result (Some held) made holds is calls leads = absurd calls
-  op-holds c d registers (op.Take r shelf) result None made holds is calls leads = absurd calls
-  op-holds c d registers (op.Take r shelf) result (Some held) made holds is calls leads = absurd calls
-  op-holds c d registers (op.Resize r need) result None made holds is calls leads = absurd calls
-  op-holds c d registers (op.Resize r need) result (Some held) made holds is calls leads = absurd calls
+  op-holds c d registers operation result None made holds is calls leads = absurd calls
+  op-holds c d registers operation result (Some held) made holds is calls leads = absurd calls
 
   -- so do operations
   pub all-hold :

@@ -14,6 +14,7 @@ use Rattle.trace_text.specs.declared.trace.Op.TheVariants as op
 use Rattle.sound_laws.specs.events.Made.{Copies, LeadsBy, Made, answered, copied, wrote}
 use Rattle.lane_engine.specs.Whole.{KeepBlocks, Maker}
 use Rattle.lane_engine.proofs.LeadsLemmas.{leads-of, leads-split, leads-then}
+use Rattle.lane_outcomes.specs.Deeds.{register_of}
 use Rattle.lane_outcomes.specs.declared.registers.HeldBlock.{HeldBlock}
 use Rattle.lane_outcomes.specs.declared.outcome.Outcome.{Outcome}
 use Rattle.lane_outcomes.specs.declared.outcome.Outcome.TheVariants as outcome
@@ -21,7 +22,7 @@ use Rattle.lane_outcomes.specs.Lane.{held_in, registers_after}
 use Rattle.trace_lane.specs.declared.lane.LaneState.{LaneState}
 use Rattle.trace_lane.specs.Advances.{IsAtHand}
 use Rattle.trace_lane.specs.Doing.{AllMadeFor}
-use Rattle.trace_lane.specs.Made.{AllMade, AreMisses, HasRun, IsUnasked, MadeFor, Makes, OneMade, register_of}
+use Rattle.trace_lane.specs.Made.{AllMade, AreMisses, HasRun, IsUnasked, MadeFor, Makes, OneMade}
 use Rattle.trace_lane.specs.Paths.{held_by, held_blocks}
 use Rattle.trace_lane.specs.Scripts.{registers_from}
 

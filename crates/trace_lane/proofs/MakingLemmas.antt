@@ -4,28 +4,23 @@ use Rattle.std.proofs.Common.{arith, append-nil}
 use Rattle.std.specs.Option.{option_map}
 use Rattle.std.proofs.lemmas.List.{length-append}
 use Rattle.heap_geometry.specs.declared.need.Need.{Need}
-use Rattle.heap_geometry.specs.Need.{IsNeed, need_of, usable_words}
-use Rattle.errand_steps.specs.Calls.{Call, write, read}
+use Rattle.errand_steps.specs.Calls.{Call}
 use Rattle.sound_laws.specs.events.Made.{Made}
 use Rattle.trace_text.specs.declared.limits.TheConstants.{REGISTERS}
 use Rattle.trace_text.specs.declared.trace.Op.{Op}
 use Rattle.trace_text.specs.declared.trace.Op.TheVariants as op
-use Rattle.trace_text.specs.Traces.{IsOp}
 use Rattle.lane_engine.specs.declared.begins.NextCall.{NextCall}
 use Rattle.lane_engine.specs.Begins.{call_of}
-use Rattle.lane_engine.specs.Callers.{FitsCall}
 use Rattle.lane_outcomes.specs.declared.registers.HeldBlock.{HeldBlock}
 use Rattle.lane_outcomes.specs.declared.outcome.Outcome.{Outcome}
-use Rattle.lane_outcomes.specs.Lane.{held_in}
 use Rattle.trace_lane.specs.Advances.{ComesTo, IsAtHand, blocks_of}
 use Rattle.trace_lane.specs.declared.lane.LaneState.{LaneState}
 use Rattle.trace_lane.specs.declared.stage.OperationStage.{OperationStage}
 use Rattle.trace_lane.specs.declared.stage.OperationStage.TheVariants as stage
-use Rattle.trace_lane.specs.Doing.{AllMadeFor, DoingIn, DoingOf, IsMaking, call_at, held_of, held_there}
-use Rattle.trace_lane.specs.Scripts.{begun_bound, registers_from, stage_begun}
-use Rattle.trace_lane.proofs.DoingLemmas.{on-block, set-there}
+use Rattle.trace_lane.specs.Doing.{AllMadeFor, DoingIn, DoingOf, IsMaking, call_at}
+use Rattle.trace_lane.specs.Scripts.{registers_from, stage_begun}
 use Rattle.trace_lane.proofs.MadeLemmas.{all-for-more, from-more}
-use Rattle.trace_lane.proofs.NeedLemmas.{here-below, need-words}
+use Rattle.trace_lane.proofs.NeedLemmas.{here-below}
 
 -- registers that hold nothing
 abbrev pub empty : List (Option HeldBlock)
@@ -130,76 +125,3 @@ module _ {B : Type 0} (place_of : B → ℕ) (block_need : B → Need) where
         ended = all-for-more empty operations results past present operation result rest at_hand ended for;
         doing = (registers ∙ sym (from-more empty operations results operation result rest at_hand), refl, refl);
       }))
-
--- the need of the block whose word is written or read is one that blocks have
-abbrev pub HasNeed : Call → Type 0
-HasNeed (write place need i v) = IsNeed need
-HasNeed (read place need i) = IsNeed need
-HasNeed call = Unit {0}
-
--- an operation has so few calls
-pub doing-few :
-    (before registers : List (Option HeldBlock)) (operation : Op) (at : OperationStage) (made : List Made) → DoingOf before registers operation at made
-    → FitsCall (call_at before registers operation at) → HasNeed (call_at before registers operation at) → stage_begun at < begun_bound
-doing-few before registers operation stage.Between made doing fits has = omega arith
-doing-few before registers operation stage.Calling made doing fits has = omega arith
-doing-few before registers operation stage.Releasing made doing fits has = omega arith
-doing-few before registers (op.Alloc r need v) (stage.Filling i) made doing fits has =
-    let most = need-words (held_there (held_in registers r)).need has in omega (arith, most, fits)
-doing-few before registers (op.Fill r v) (stage.Filling i) made doing fits has =
-    let most = need-words (held_there (held_in registers r)).need has in omega (arith, most, fits)
-doing-few before registers (op.Check r) (stage.Summing i total) made doing fits has =
-    let most = need-words (held_there (held_in registers r)).need has in omega (arith, most, fits)
-doing-few before registers (op.Resize r need) (stage.Copying old i None) made doing fits has =
-    let most = need-words old.need has in omega (arith, most, fits)
-doing-few before registers (op.Resize r need) (stage.Copying old i (Some w)) made doing fits has =
-    let most = need-words (held_there (held_in registers r)).need has in omega (arith, most, fits)
-doing-few before registers operation at made doing fits has = absurd doing
-
--- the call's block has words
-abbrev pub HasWords : Call → Type 0
-HasWords (write place need i v) = 0 < usable_words need
-HasWords (read place need i) = 0 < usable_words need
-HasWords call = Unit {0}
-
--- the numbers of the call under way are in their ranges
-pub doing-fits :
-    (before registers : List (Option HeldBlock)) (operation : Op) (at : OperationStage) (made : List Made) → length registers ≡ REGISTERS → IsOp operation
-    → DoingOf before registers operation at made → HasWords (call_at before registers operation at) → FitsCall (call_at before registers operation at)
-doing-fits before registers (op.Alloc r need v) stage.Calling made size is doing some = is.1
-doing-fits before registers (op.Alloc r need v) (stage.Filling i) made size is (place, none, set, inside, made_is) some =
-    let there : held_there (held_in registers r) ≡ held_of place (need_of need) =
-    ap held_there (set-there before registers r (held_of place (need_of need)) (omega (arith, size, is.0)) set) in
-    let needs : (held_there (held_in registers r)).need ≡ need_of need = ap (λ (h : HeldBlock). h.need) there in
-    subst (λ n. i < usable_words n) (sym needs) (inside (subst (λ n. 0 < usable_words n) needs some))
-doing-fits before registers (op.Free r) stage.Calling made size is doing some = tt
-doing-fits before registers (op.Fill r v) (stage.Filling i) made size is doing some =
-    let on = on-block (held_in before r) _ doing in
-    let there : held_there (held_in registers r) ≡ on.held = ap (λ rs. held_there (held_in rs r)) on.so.0 ∙ ap held_there on.full in
-    let needs : (held_there (held_in registers r)).need ≡ on.held.need = ap (λ (h : HeldBlock). h.need) there in
-    let words = on.words in
-    let positive : 0 < on.held.words = let s = subst (λ n. 0 < usable_words n) needs some in omega (arith, s, words) in
-    let below = on.so.1 positive in
-    subst (λ n. i < usable_words n) (sym needs) (omega (arith, below, words))
-doing-fits before registers (op.Check r) (stage.Summing i total) made size is doing some =
-    let on = on-block (held_in before r) _ doing in
-    let there : held_there (held_in registers r) ≡ on.held = ap (λ rs. held_there (held_in rs r)) on.so.0 ∙ ap held_there on.full in
-    let needs : (held_there (held_in registers r)).need ≡ on.held.need = ap (λ (h : HeldBlock). h.need) there in
-    let words = on.words in
-    let positive : 0 < on.held.words = let s = subst (λ n. 0 < usable_words n) needs some in omega (arith, s, words) in
-    let below = on.so.1 positive in
-    subst (λ n. i < usable_words n) (sym needs) (omega (arith, below, words))
-doing-fits before registers (op.Put r shelf) stage.Calling made size is doing some = is.1
-doing-fits before registers (op.Take r shelf) stage.Calling made size is doing some = is.1
-doing-fits before registers (op.Resize r need) stage.Calling made size is doing some = is.1
-doing-fits before registers (op.Resize r need) (stage.Copying old i None) made size is (place, rep, inside, within, words, all, made_is) some =
-    let serves = rep.serves in
-    let below = inside (omega (arith, some, serves)) in
-    omega (arith, below, serves)
-doing-fits before registers (op.Resize r need) (stage.Copying old i (Some w)) made size is (place, rep, inside, words, all, got, got_is, made_is) some =
-    let there : held_there (held_in registers r) ≡ held_of place (need_of need) =
-    ap held_there (set-there before registers r (held_of place (need_of need)) (omega (arith, size, is.0)) rep.replaced) in
-    let needs : (held_there (held_in registers r)).need ≡ need_of need = ap (λ (h : HeldBlock). h.need) there in
-    subst (λ n. i < usable_words n) (sym needs) (inside (subst (λ n. 0 < usable_words n) needs some))
-doing-fits before registers (op.Resize r need) stage.Releasing made size is doing some = tt
-doing-fits before registers operation at made size is doing some = absurd doing

@@ -11,6 +11,7 @@ use Rattle.sound_laws.specs.events.Made.{Made, answered}
 use Rattle.trace_text.specs.declared.trace.Op.{Op}
 use Rattle.lane_engine.specs.declared.begins.NextCall.{NextCall}
 use Rattle.lane_engine.specs.Begins.{call_of}
+use Rattle.lane_outcomes.specs.Deeds.{register_of}
 use Rattle.lane_outcomes.specs.declared.registers.HeldBlock.{HeldBlock}
 use Rattle.lane_outcomes.specs.declared.outcome.Outcome.{Outcome}
 use Rattle.lane_outcomes.specs.Lane.{held_in, registers_after}
@@ -18,7 +19,7 @@ use Rattle.trace_lane.specs.Advances.{AnswersCall, ComesTo, HasAnswered, HasBegu
 use Rattle.trace_lane.specs.declared.lane.LaneState.{LaneState}
 use Rattle.trace_lane.specs.declared.stage.OperationStage.{OperationStage}
 use Rattle.trace_lane.specs.Doing.{DoingOf, call_at, held_there}
-use Rattle.trace_lane.specs.Made.{MadeFor, register_of}
+use Rattle.trace_lane.specs.Made.{MadeFor}
 use Rattle.trace_lane.specs.Paths.{held_blocks, held_by}
 use Rattle.trace_lane.specs.Scripts.{stage_begun}
 use Rattle.std.proofs.lemmas.List.{length-map, set-get_or}
@@ -38,10 +39,6 @@ module _ {B : Type 0} (place_of : B → ℕ) (need_of : B → Need) where
       (blocks : List (Option B)) (r : ℕ) (block : B) → slice_index_or blocks r None ≡ Some block
       → held_in (held_blocks place_of need_of blocks) r ≡ Some (held_by place_of need_of block)
   slot-full blocks r block full = slot-held blocks r ∙ ap (option_map (held_by place_of need_of)) full
-
-  pub slot-empty :
-      (blocks : List (Option B)) (r : ℕ) → slice_index_or blocks r None ≡ None → held_in (held_blocks place_of need_of blocks) r ≡ None
-  slot-empty blocks r empty = slot-held blocks r ∙ ap (option_map (held_by place_of need_of)) empty
 
   -- a register that is set
   pub set-held :

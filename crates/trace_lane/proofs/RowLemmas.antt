@@ -31,14 +31,14 @@ use Rattle.sound_laws.specs.events.Made.{LeadsBy, Made, answered, copied}
 use Rattle.trace_text.specs.declared.trace.Op.{Op}
 use Rattle.trace_text.specs.declared.trace.Op.TheVariants as op
 use Rattle.lane_engine.specs.Callers.{Caller, EndsCall, IsAtRest, IsCall, MadeBy, OwnsFor, at_once, begun_at, by_steps}
+use Rattle.lane_outcomes.specs.Deeds.{register_of}
 use Rattle.lane_outcomes.specs.declared.registers.HeldBlock.{HeldBlock}
 use Rattle.lane_outcomes.specs.declared.outcome.Outcome.{Outcome}
 use Rattle.lane_outcomes.specs.declared.outcome.Outcome.TheVariants as outcome
 use Rattle.lane_outcomes.specs.Lane.{Position, filling, held_in, writing}
-use Rattle.lane_outcomes.specs.Rows.{CheckRow, FitsRow, IsCopy, IsSpent, IsWord, MayAsk, Moment, Setting}
-use Rattle.lane_outcomes.proofs.SlotRows.{RowAt, at-row, slot_of}
+use Rattle.lane_outcomes.specs.Rows.{RowAt, CheckRow, FitsRow, IsCopy, IsSpent, IsWord, MayAsk, Moment, Setting}
 use Rattle.lane_outcomes.specs.Standing.{setting_in}
-use Rattle.trace_lane.specs.Made.{MadeFor, Skips, register_of}
+use Rattle.trace_lane.specs.Made.{MadeFor, Skips}
 use Rattle.trace_lane.proofs.AddedLemmas.{HasAdded, HasKept, HasTakenOff, added-none, added-then, called-added, copy-walk, ended-as, full-added, got-added, kept-on, reads-kept, takes-added, value_of, whole-added, writes-added}
 use Rattle.trace_lane.proofs.AnswerLemmas.{alloc-not_begun, ends-spent_call}
 use Rattle.trace_lane.proofs.CallerLemmas.{Owns, alloc-started, caller-laws, ends-called, steps-busy, steps-called}
@@ -46,19 +46,6 @@ use Rattle.lane_engine.proofs.LeadsLemmas.{leads-split}
 use Rattle.trace_lane.proofs.HoldsLemmas.{HoldsAll}
 use Rattle.trace_lane.proofs.QuietLemmas.{AllQuiet, quiet-giving}
 use Rattle.trace_lane.proofs.TurnLemmas.{answered_in, asked-unspent, is-spent, may-ask}
-
--- a row, by what the operation's register holds
-slot-is : (registers : List (Option HeldBlock)) (operation : Op) → slot_of registers operation ≡ held_in registers (register_of operation)
-slot-is registers (op.Alloc r need v) = refl
-slot-is registers operation = refl
-
-row-by :
-    (setting : Setting) (position : Position) (operation : Op) (slot : Option HeldBlock) (result : Outcome) (piece : List Event)
-    → held_in position.registers (register_of operation) ≡ slot → RowAt setting position operation slot result piece
-    → FitsRow setting position operation result piece
-row-by setting position operation slot result piece is row =
-    at-row setting position operation result piece
-    (subst (λ h. RowAt setting position operation h result piece) (sym (slot-is position.registers operation ∙ is)) row)
 
 -- a skipped operation's
 skip-row :
@@ -163,7 +150,7 @@ module _ (g : Geometry) (c d : Caller) (base : Position) (st : IsBetween g c bas
       → HasAdded g c d piece → RowAt setting base operation slot result piece → (result ≡ outcome.Spent → d.errand.turns ≡ g.turn_limit)
       → HasGone g c d base operation result
   gone operation result slot piece is added row spent =
-      record { piece = piece; added = added; row = row-by setting base operation slot result piece is row; spent = spent }
+      record { piece = piece; added = added; row = subst (λ h. RowAt setting base operation h result piece) (sym is) row; spent = spent }
 
   none-added : d ≡ c → HasAdded g c d []
   none-added same = subst (λ x. HasAdded g c x []) (sym same) (added-none g c st.rests)
@@ -397,16 +384,5 @@ module _ (g : Geometry) (c d : Caller) (base : Position) (st : IsBetween g c bas
       let (piece, added, row, limit) = spending need made calls leads in
       gone (op.Resize r need) outcome.Spent (Some held) piece is added (differ, row) (λ is. limit)
   op-gone (op.Alloc r need v) result None made is calls leads = absurd calls
-  op-gone (op.Alloc r need v) result (Some held) made is calls leads = absurd calls
-  op-gone (op.Free r) result None made is calls leads = absurd calls
-  op-gone (op.Free r) result (Some held) made is calls leads = absurd calls
-  op-gone (op.Fill r v) result None made is calls leads = absurd calls
-  op-gone (op.Fill r v) result (Some held) made is calls leads = absurd calls
-  op-gone (op.Check r) result None made is calls leads = absurd calls
-  op-gone (op.Check r) result (Some held) made is calls leads = absurd calls
-  op-gone (op.Put r shelf) result None made is calls leads = absurd calls
-  op-gone (op.Put r shelf) result (Some held) made is calls leads = absurd calls
-  op-gone (op.Take r shelf) result None made is calls leads = absurd calls
-  op-gone (op.Take r shelf) result (Some held) made is calls leads = absurd calls
-  op-gone (op.Resize r need) result None made is calls leads = absurd calls
-  op-gone (op.Resize r need) result (Some held) made is calls leads = absurd calls
+  op-gone operation result None made is calls leads = absurd calls
+  op-gone operation result (Some held) made is calls leads = absurd calls

@@ -14,12 +14,13 @@ use Rattle.trace_text.specs.declared.trace.Op.{Op}
 use Rattle.trace_text.specs.declared.trace.Op.TheVariants as op
 use Rattle.sound_laws.specs.events.Made.{LeadsBy, Made, answered, copied, copied_word, found_from, wrote}
 use Rattle.lane_engine.specs.Callers.{Caller, IsAtRest, IsCall}
+use Rattle.lane_outcomes.specs.Deeds.{register_of}
 use Rattle.lane_outcomes.specs.declared.registers.HeldBlock.{HeldBlock}
 use Rattle.lane_outcomes.specs.declared.outcome.Outcome.{Outcome}
 use Rattle.lane_outcomes.specs.declared.outcome.Outcome.TheVariants as outcome
 use Rattle.lane_outcomes.specs.Lane.{held_in, registers_after}
 use Rattle.trace_lane.specs.Doing.{AllMadeFor}
-use Rattle.trace_lane.specs.Made.{AreMisses, MadeFor, calls_made, register_of}
+use Rattle.trace_lane.specs.Made.{AreMisses, MadeFor, calls_made}
 use Rattle.trace_lane.specs.Scripts.{CallsOf, IsOfNeed, OnHeld, Replaces, Scripts, copying, copying_word, reads_of, writes_of}
 use Rattle.trace_lane.proofs.AnswerLemmas.{owned-need}
 use Rattle.trace_lane.proofs.CallerLemmas.{Owns, caller-laws}

@@ -44,10 +44,8 @@ use Rattle.lane_engine.specs.Engines.{Engine}
 use Rattle.lane_engine.specs.Told.{HasStepped}
 use Rattle.lane_outcomes.specs.declared.registers.HeldBlock.{HeldBlock}
 use Rattle.lane_outcomes.specs.declared.outcome.Outcome.{Outcome}
-use Rattle.lane_outcomes.specs.Lane.{held_in}
 use Rattle.trace_lane.specs.Advances.{AnswersCall, ComesTo, HasAnswered, HasBegun, HasGoneOn, IsAgain, IsAtHand, IsBefore, IsShort, IsTold, KeepsLane, MayAnswer}
 use Rattle.trace_lane.specs.declared.lane.LaneState.{LaneState}
-use Rattle.trace_lane.specs.declared.stage.OperationStage.{OperationStage}
 use Rattle.trace_lane.specs.declared.stage.OperationStage.TheVariants as stage
 use Rattle.trace_lane.specs.Doing.{AllMadeFor, DoingOf, IsMaking, call_at}
 use Rattle.trace_lane.specs.Lanes.{IsLane, StandsBy}
@@ -59,16 +57,15 @@ use Rattle.trace_lane.proofs.AdvanceLemmas.{Falls}
 use Rattle.trace_lane.proofs.AnswerLemmas.{MayCall, alloc-not_begun, call-begun, goes-on as call-goes_on, settled-of}
 use Rattle.step_machine.proofs.ApartLemmas.{owns-on}
 use Rattle.trace_lane.proofs.CallerLemmas.{IsWay, Owns, answers-so, caller-laws, ends-called, in-begun, in-way, moment-from}
-use Rattle.trace_lane.proofs.DoingLemmas.{on-block}
 use Rattle.trace_lane.proofs.EndedLemmas.{IsResting, lane-resting}
 use Rattle.lane_engine.proofs.LeadsLemmas.{leads-split}
 use Rattle.trace_lane.proofs.HoldsLemmas.{HoldsAll, all-hold}
 use Rattle.trace_lane.proofs.MadeLemmas.{all-made}
 use Rattle.trace_lane.proofs.PartLemmas.{blocks-size}
-use Rattle.trace_lane.proofs.MakingLemmas.{HasNeed, IsAtWork, comes-making, doing-begun, doing-few, doing-fits, empty, making-work}
+use Rattle.trace_lane.proofs.MakingLemmas.{IsAtWork, comes-making, doing-begun, empty, making-work}
 use Rattle.trace_lane.proofs.NeedLemmas.{left-ends, left-rises, need-words}
 use Rattle.trace_lane.proofs.OwnLemmas.{empty-holds}
-use Rattle.trace_lane.proofs.WorkLemmas.{doing-owns, owned-has}
+use Rattle.trace_lane.proofs.WorkLemmas.{HasNeed, IsWorking, doing-works}
 
 -- what a caller owns it owns still, whatever others did
 pub owns-beside :
@@ -96,31 +93,6 @@ spent-alloc :
     (e : ErrandFields) (call : Call) → begin_answer e call ≡ begun.Spent → (words : ℕ) × (call ≡ alloc words) × (alloc_answer e words ≡ begun.Spent)
 spent-alloc e (alloc words) spent = (words, refl, spent)
 spent-alloc e call spent = absurd (cc)
-
-resize-none :
-    (before registers : List (Option HeldBlock)) (r need : ℕ) (made : List Made) → DoingOf before registers (op.Resize r need) stage.Calling made → made ≡ []
-resize-none before registers r need made doing = (on-block (held_in before r) _ doing).so.2
-
--- an operation that has ended a call has no allocation under way
-longer-not : (made : List Made) (m : Made) → made ++ m ∷ [] ≡ [] → ⊥
-longer-not made m none = let long = length-append made (m ∷ []) in let zero_long = ap length none in omega (arith, long, zero_long)
-
-next-started :
-    (e : ErrandFields) (before registers : List (Option HeldBlock)) (operation : Op) (at : OperationStage) (made : List Made) (m : Made)
-    → DoingOf before registers operation at (made ++ m ∷ []) → begin_answer e (call_at before registers operation at) ≡ begun.Started
-next-started e before registers (op.Alloc r need v) stage.Calling made m doing = absurd (longer-not made m doing.2)
-next-started e before registers (op.Alloc r need v) (stage.Filling i) made m doing = refl
-next-started e before registers (op.Free r) stage.Calling made m doing = refl
-next-started e before registers (op.Fill r v) (stage.Filling i) made m doing = refl
-next-started e before registers (op.Check r) (stage.Summing i total) made m doing = refl
-next-started e before registers (op.Put r shelf) stage.Calling made m doing = refl
-next-started e before registers (op.Take r shelf) stage.Calling made m doing = refl
-next-started e before registers (op.Resize r need) stage.Calling made m doing =
-    absurd (longer-not made m (resize-none before registers r need (made ++ m ∷ []) doing))
-next-started e before registers (op.Resize r need) (stage.Copying old i None) made m doing = refl
-next-started e before registers (op.Resize r need) (stage.Copying old i (Some w)) made m doing = refl
-next-started e before registers (op.Resize r need) stage.Releasing made m doing = refl
-next-started e before registers operation at made m doing = absurd doing
 
 -- a take that begins again had been missed
 misses-last :
@@ -293,17 +265,15 @@ module _ {B : Type 0} (engine : Engine B) where
         let before = registers_from empty operations lane.outcomes.items in
         let (same, doing, is) = comes-so (Some call) new h in
         let size = blocks-size engine.place_of engine.need_of new.registers.items ∙ h.keeps.size ∙ b.stands.size in
-        let owned = doing-owns g before (blocks new) now now holds-now operation new.stage [] size is_op doing refl in
-        let has = owned-has g now.seen now.errand.caller (call_at before (blocks new) operation new.stage) resting.rests.served.legal owned in
-        let fits = doing-fits before (blocks new) operation new.stage [] size is_op doing has.1 in
-        let owned_call = subst (λ c. OwnsFor now.seen now.errand.caller c) (sym is) owned in
+        let works = doing-works g before (blocks new) now now holds-now operation new.stage [] size is_op doing refl resting.rests.served.legal in
+        let owned_call = subst (λ c. OwnsFor now.seen now.errand.caller c) (sym is) works.owned in
         record {
           idle = resting.rests.idle;
           sight_owned = owned_call;
           owned =
               owns-beside g lane.caller resting.sight engine.events (call_of call) resting.others b.served.legal
               (subst (λ k. OwnsFor resting.sight k (call_of call)) number owned_call);
-          fits = subst FitsCall (sym is) fits;
+          fits = subst FitsCall (sym is) works.fits;
         }
 
     -- its first call has begun
@@ -512,19 +482,16 @@ module _ {B : Type 0} (engine : Engine B) where
       holds-past : HoldsAll Owns past-leads.0 (registers_from empty operations lane.outcomes.items)
       holds-past = holds-between operations lane.outcomes.items lane.caller work.past past-leads.0 past-leads.1 work.ended
 
-      has-here : IsOp operation → FitsCall here × HasNeed here
-      has-here is_op =
-          let size = blocks-size engine.place_of engine.need_of lane.registers.items ∙ t.stood.size in
-          let before = registers_from empty operations lane.outcomes.items in
-          let owned = subst (λ c. OwnsFor calling.last.seen calling.last.errand.caller c) call-is calling.owned in
-          let has = owned-has g calling.last.seen calling.last.errand.caller here calling.rests.served.legal owned in
-          (doing-fits before (blocks lane) operation lane.stage work.present size is_op work.doing has.1, has.0)
+      works-here : IsOp operation → IsWorking calling.last.seen calling.last.errand.caller here lane.stage work.present
+      works-here is_op =
+          doing-works g (registers_from empty operations lane.outcomes.items) (blocks lane) past-leads.0 calling.last holds-past operation lane.stage work.present
+          (blocks-size engine.place_of engine.need_of lane.registers.items ∙ t.stood.size) is_op work.doing past-leads.2 calling.rests.served.legal
 
       answers-here : IsOp operation → AnswersCall engine.place_of engine.need_of here ended
       answers-here is_op =
           subst (λ c. AnswersCall engine.place_of engine.need_of c ended) call-is
           (answers-so engine.place_of engine.need_of g e engine.errand told-stands.sight engine.events way.added t.still_served.legal calling.call ended
-          (subst FitsCall (sym call-is) (has-here is_op).0) way.under_way done-from)
+          (subst FitsCall (sym call-is) (works-here is_op).fits) way.under_way done-from)
 
       pub told-may : IsOp operation → MayAnswer engine.place_of engine.need_of operation ended lane
       told-may is_op = record {
@@ -532,7 +499,7 @@ module _ {B : Type 0} (engine : Engine B) where
         made = work.present;
         doing = work.doing;
         answers = answers-here is_op;
-        short = short-by engine.place_of engine.need_of here (has-here is_op).0 (has-here is_op).1;
+        short = short-by engine.place_of engine.need_of here (works-here is_op).fits (works-here is_op).has;
       }
 
       abbrev pub present-after : List Made
@@ -555,11 +522,6 @@ module _ {B : Type 0} (engine : Engine B) where
       comes is_op next new answers =
           answers.comes (registers_from empty operations lane.outcomes.items) work.present work.doing (answers-here is_op)
 
-      few : IsOp operation → stage_begun lane.stage < begun_bound
-      few is_op =
-          let has = has-here is_op in
-          doing-few (registers_from empty operations lane.outcomes.items) (blocks lane) operation lane.stage work.present work.doing has.0 has.1
-
       calls-after : (more : Option Call) → calls ++ calls_in more ≡ calls_made (work.past ++ present-after) ++ calls_in more
       calls-after more =
           ap (λ cs. cs ++ calls_in more)
@@ -573,7 +535,7 @@ module _ {B : Type 0} (engine : Engine B) where
       told-ends again new is_op answers =
           comes-on operations operation lane new work.past present-after None calls engine.errand engine.events None again t.next work.ended (comes is_op None new answers)
           t.stood.room t.stood.size answers.keeps (stands-by None engine.errand (leads-after, rests-after))
-          (same-seen lane.caller engine.events engine.events refl) (calls-after None) (few is_op) (λ some. absurd (some refl))
+          (same-seen lane.caller engine.events engine.events refl) (calls-after None) (works-here is_op).few (λ some. absurd (some refl))
 
       -- its next call may begin
       pub told-next :
@@ -586,15 +548,13 @@ module _ {B : Type 0} (engine : Engine B) where
           let size = blocks-size engine.place_of engine.need_of new.registers.items ∙ answers.keeps.size ∙ t.stood.size in
           let present = leads-more (IsCall g) past-leads.0 calling.last after-step work.present calling.call answer past-leads.2 call-ended in
           let present_so = subst (λ c. LeadsBy (IsCall g) past-leads.0 (work.present ++ answered c answer ∷ []) after-step) call-is present in
-          let owned = doing-owns g before (blocks new) past-leads.0 after-step holds-past operation new.stage present-after size is_op doing present_so in
-          let owned_call = subst (λ c. OwnsFor engine.events engine.errand.caller c) (sym is) owned in
-          let has = owned-has g engine.events engine.errand.caller (call_at before (blocks new) operation new.stage) t.still_served.legal owned in
-          let fits = doing-fits before (blocks new) operation new.stage present-after size is_op doing has.1 in
-          let started = next-started engine.errand before (blocks new) operation new.stage work.present (answered here answer) doing in (
+          let works = doing-works g before (blocks new) past-leads.0 after-step holds-past operation new.stage present-after size is_op doing present_so
+          t.still_served.legal in
+          let owned_call = subst (λ c. OwnsFor engine.events engine.errand.caller c) (sym is) works.owned in (
             done-idle,
             subst (λ k. OwnsFor engine.events k (call_of call)) t.still_served.own_errand.number owned_call,
-            subst FitsCall (sym is) fits,
-            ap (begin_answer engine.errand) is ∙ started,
+            subst FitsCall (sym is) works.fits,
+            ap (begin_answer engine.errand) is ∙ works.started engine.errand work.present (answered here answer) refl,
           )
 
       -- a take that is tried again was missed, and has added no event
@@ -648,7 +608,7 @@ module _ {B : Type 0} (engine : Engine B) where
           (IsAgain lane.caller seen e engine.events) t.next work.ended (comes is_op (Some call) new answers) t.stood.room t.stood.size answers.keeps
           (stands-by (Some (call_of call)) (begun_by engine.errand (call_of call))
           (after-step, leads-after, rests-after, own_call, record { steps = 0; on = refl; busy = begins.busy }))
-          (same-seen lane.caller engine.events engine.events refl) (calls-after (Some (call_of call))) (few is_op)
+          (same-seen lane.caller engine.events engine.events refl) (calls-after (Some (call_of call))) (works-here is_op).few
           (λ some. elim answers.rises [
             | inl rises ↦ inl rises
             | inr again ↦

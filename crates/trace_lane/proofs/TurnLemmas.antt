@@ -1,6 +1,7 @@
 -- How many small allocations of a lane were answered, and where it has no turn left.
-use Rattle.std.proofs.Common.{ℕ, zero, suc, Bool, true, false, eqb, ◌≡◌, ◌≤◌, ◌+◌, ◌%◌, ◌^◌, ◌&&◌, ◌∷◌, ◌++◌, List, [], Option, Some, None, append-nil}
-use Rattle.std.proofs.Common.{refl, sym, ap, ◌∙◌, inl, inr, arith}
+use Rattle.std.proofs.Common.{ℕ, zero, suc, Bool, true, false, eqb, ◌≡◌, ◌≤◌, ◌+◌, ◌%◌, ◌^◌, ◌&&◌, ◌∷◌, ◌++◌, List, [], append-nil}
+use Rattle.std.proofs.Common.{Option, Some, None, refl, sym, ap, ◌∙◌, inl, inr, arith}
+use Rattle.std.specs.List.{AllByRecursion}
 use Rattle.std.specs.Prelude.{count_by, if◌then◌else◌, nat_le}
 use Rattle.std.proofs.lemmas.Bool.{true≢false, cases_Bool, eq-eqb}
 use Rattle.std.proofs.lemmas.List.Sums.{sum_by-append, sum_by-cons}
@@ -12,7 +13,7 @@ use Rattle.heap_geometry.specs.Need.{need_of}
 use Rattle.pool_model.specs.Calls.{EventsOf, IsGiving, IsRefusing, IsSpending, alloc_spent, looks}
 use Rattle.pool_model.specs.Histories.{own, caller_of}
 use Rattle.pool_model.specs.declared.event.Event.{Event}
-use Rattle.pool_model.specs.declared.event.Event.TheVariants.{Alloc, Looked, Refuse, Free, Write}
+use Rattle.pool_model.specs.declared.event.Event.TheVariants.{Alloc, Looked, Refuse, TakeNone, Write}
 use Rattle.errand_steps.specs.Begins.{IsIdle, alloc_answer, begins_with}
 use Rattle.errand_steps.specs.Errands.{ErrandFields, is_spent}
 use Rattle.errand_steps.specs.Points.{is_idle}
@@ -23,15 +24,17 @@ use Rattle.sound_state.specs.TurnStages.{turn_stage_of, lacks_answer}
 use Rattle.sound_state.specs.Turns.{gives_small, refuses_small, is_small_alloc, one_if}
 use Rattle.step_machine.specs.Moments.{IsServed}
 use Rattle.trace_text.specs.declared.trace.Op.{Op}
-use Rattle.trace_text.specs.declared.trace.Op.TheVariants as op
-use Rattle.lane_outcomes.specs.declared.registers.HeldBlock.{HeldBlock}
 use Rattle.lane_outcomes.specs.declared.outcome.Outcome.{Outcome}
-use Rattle.lane_outcomes.specs.declared.outcome.Outcome.TheVariants as outcome
-use Rattle.lane_outcomes.specs.Lane.{Position, answered_after, filling, is_small, writing}
+use Rattle.lane_outcomes.specs.Lane.{Position, answered_after, answered_with, filling, is_small, writing}
 use Rattle.lane_outcomes.specs.Rows.{FitsRow, IsSpent, MayAsk, Moment, Setting, gives_another_small}
-use Rattle.lane_outcomes.proofs.SlotRows.{RowAt, row-at, slot_of}
+use Rattle.lane_outcomes.specs.Deeds.{Deed, deed_of, register_of}
+use Rattle.lane_outcomes.specs.Deeds as deed
 use Rattle.lane_outcomes.specs.Standing.{setting_in}
 use Rattle.lane_outcomes.proofs.FillLemmas.{writes_of}
+use Rattle.lane_outcomes.specs.Magazines.{empty_magazines, freeing, is_kept, magazines_given, served_by}
+use Rattle.lane_outcomes.proofs.RoomLemmas.{none-served, plain, row-room}
+use Rattle.lane_outcomes.specs.Cached.{CachedPosition, CachedRow, IsGivenBy, answered_by, served_for, served_with}
+use Rattle.lane_outcomes.proofs.SlotRows.{Adds, IsMild, row-adds}
 
 -- how many small allocations of a caller were given a block or refused
 abbrev pub answered_in : ℕ → List Event → ℕ
@@ -127,11 +130,6 @@ pub piece-count :
     → answered + more ≡ answered_in caller (done ++ piece)
 piece-count caller done piece answered more so_far is = let all = answered-append caller done piece in omega arith
 
-pub piece-none :
-    (caller : ℕ) (done piece : List Event) (answered : ℕ) → answered ≡ answered_in caller done → answered_in caller piece ≡ 0
-    → answered ≡ answered_in caller (done ++ piece)
-piece-none caller done piece answered so_far is = let all = answered-append caller done piece in omega arith
-
 counted : (b : Bool) (answered : ℕ) → (if b then suc answered else answered) ≡ answered + one_if b
 counted true answered = omega arith
 counted false answered = omega arith
@@ -140,20 +138,34 @@ counted false answered = omega arith
 pub small-more : (need answered : ℕ) → (if is_small (need_of need) then suc answered else answered) ≡ answered + one_if (nat_le need SMALL_MOST)
 small-more need answered = ap (λ b. if b then suc answered else answered) (small-need need) ∙ counted (nat_le need SMALL_MOST) answered
 
--- how many answers an operation with this outcome is
-abbrev answers_of : Op → Outcome → ℕ
-answers_of (op.Alloc r need v) (outcome.Given words place) = one_if (nat_le need SMALL_MOST)
-answers_of (op.Alloc r need v) outcome.Refused = one_if (nat_le need SMALL_MOST)
-answers_of (op.Resize r need) (outcome.Resized words place) = one_if (nat_le need SMALL_MOST)
-answers_of (op.Resize r need) outcome.Refused = one_if (nat_le need SMALL_MOST)
-answers_of operation result = 0
+-- how many answers an operation with its outcome is: none where a magazine served it
+abbrev given_answers : Option ℕ → ℕ → ℕ
+given_answers None need = one_if (nat_le need SMALL_MOST)
+given_answers (Some place) need = 0
 
-answered-more : (answered : ℕ) (operation : Op) (result : Outcome) → answered_after answered operation result ≡ answered + answers_of operation result
-answered-more answered (op.Alloc r need v) (outcome.Given words place) = small-more need answered
-answered-more answered (op.Alloc r need v) outcome.Refused = small-more need answered
-answered-more answered (op.Resize r need) (outcome.Resized words place) = small-more need answered
-answered-more answered (op.Resize r need) outcome.Refused = small-more need answered
-answered-more answered operation result = omega arith
+abbrev answers_by : Option ℕ → Deed → ℕ
+answers_by served (deed.gives need v words place) = given_answers served need
+answers_by served (deed.replaces need words place) = given_answers served need
+answers_by served (deed.refuses need) = one_if (nat_le need SMALL_MOST)
+answers_by served done = 0
+
+given-more :
+    (served : Option ℕ) (answered need : ℕ) (operation : Op) (result : Outcome)
+    → answered_after answered operation result ≡ (if is_small (need_of need) then suc answered else answered)
+    → answered_by served answered operation result ≡ answered + given_answers served need
+given-more None answered need operation result is = is ∙ small-more need answered
+given-more (Some place) answered need operation result is = omega arith
+
+answered-more :
+    (magazines : List (List ℕ)) (answered : ℕ) (operation : Op) (result : Outcome) (done : Deed)
+    → answered_after answered operation result ≡ answered_with answered done
+    → answered_by (served_with magazines done) answered operation result ≡ answered + answers_by (served_with magazines done) done
+answered-more magazines answered operation result (deed.gives need v words place) is =
+    given-more (served_by magazines (need_of need)) answered need operation result is
+answered-more magazines answered operation result (deed.replaces need words place) is =
+    given-more (served_by magazines (need_of need)) answered need operation result is
+answered-more magazines answered operation result (deed.refuses need) is = is ∙ small-more need answered
+answered-more magazines answered operation result done is = is ∙ omega arith
 
 -- a block was given, and other events followed that are no answers
 given-count :
@@ -162,50 +174,69 @@ given-count :
 given-count caller need place calls more giving none =
     let all = answered-append caller calls more in let one = giving-count caller need place (need_of need) calls giving in omega arith
 
-count-at :
-    (setting : Setting) (position : Position) (operation : Op) (slot : Option HeldBlock) (result : Outcome) (piece : List Event)
-    → RowAt setting position operation slot result piece → answered_in setting.caller piece ≡ answers_of operation result
-count-at setting position (op.Alloc r need v) (Some held) outcome.Skipped piece row = ap (answered_in setting.caller) row
-count-at setting position (op.Alloc r need v) None (outcome.Given words place) piece (asks, words_are, calls, events, is) =
+freeing-none : (caller : ℕ) (keeps : Bool) (place : ℕ) → answered_in caller (freeing caller keeps place) ≡ 0
+freeing-none caller true place = refl
+freeing-none caller false place = refl
+
+mild-none : (caller by : ℕ) (events : List Event) → AllByRecursion (IsMild by) events → answered_in caller events ≡ 0
+mild-none caller by [] milds = refl
+mild-none caller by (Write other place i v ∷ events) milds = mild-none caller by events milds.1
+mild-none caller by (TakeNone other shelf ∷ events) milds = mild-none caller by events milds.1
+mild-none caller by (event ∷ events) milds = absurd milds.0
+
+-- a magazine or the heap gave a block
+handed-count :
+    (setting : Setting) (position : CachedPosition) (need place : ℕ) (calls more : List Event) (served : Option ℕ)
+    → IsGivenBy served setting position need place calls → answered_in setting.caller more ≡ 0
+    → answered_in setting.caller (calls ++ more) ≡ given_answers served need
+handed-count setting position need place calls more None given none = given-count setting.caller need place calls more given.1 none
+handed-count setting position need place calls more (Some at) given none = ap (λ es. answered_in setting.caller (es ++ more)) given.1 ∙ none
+
+count-by :
+    (setting : Setting) (depth : ℕ) (position : CachedPosition) (r : ℕ) (done : Deed) (piece : List Event) → Adds setting depth position r done piece
+    → answered_in setting.caller piece ≡ answers_by (served_with position.magazines done) done
+count-by setting depth position r (deed.gives need v words place) piece (empty, words_are, calls, given, is) =
     ap (answered_in setting.caller) is
-    ∙ given-count setting.caller need place calls (filling setting.caller place words v) events
+    ∙ handed-count setting position need place calls (filling setting.caller place words v) (served_by position.magazines (need_of need)) given
     (writes-none setting.caller words 0 setting.caller place (λ i. (v + i) % 2 ^ 64))
-count-at setting position (op.Alloc r need v) None outcome.Refused piece row = refusing-count setting.caller need (need_of need) piece row.1
-count-at setting position (op.Alloc r need v) None outcome.Spent piece row = spent-count setting position need piece position.spent row
-count-at setting position (op.Free r) (Some held) outcome.Freed piece row = ap (answered_in setting.caller) row
-count-at setting position (op.Fill r v) (Some held) outcome.Filled piece row =
-    ap (answered_in setting.caller) row ∙ writes-none setting.caller held.words 0 setting.caller held.place (λ i. (v + i) % 2 ^ 64)
-count-at setting position (op.Check r) (Some held) (outcome.Sum total) piece row = ap (answered_in setting.caller) row.0
-count-at setting position (op.Put r shelf) (Some held) outcome.Put piece row = ap (answered_in setting.caller) row
-count-at setting position (op.Put r shelf) (Some held) outcome.ShelfFull piece row = ap (answered_in setting.caller) row.0
-count-at setting position (op.Take r shelf) (Some held) outcome.Skipped piece row = ap (answered_in setting.caller) row
-count-at setting position (op.Take r shelf) None (outcome.Took words place need) piece row = ap (answered_in setting.caller) row.0
-count-at setting position (op.Take r shelf) None outcome.ShelfEmpty piece row = ap (answered_in setting.caller) row
-count-at setting position (op.Resize r need) (Some held) (outcome.Kept words place) piece row = ap (answered_in setting.caller) row.0
-count-at setting position (op.Resize r need) (Some held) (outcome.Resized words place) piece (differ, asks, words_are, calls, events, value, copy, is) =
+count-by setting depth position r (deed.replaces need words place) piece (held, full, differ, words_are, calls, given, value, copy, is) =
     let caller = setting.caller in
     let writes = writing caller place words value in
-    let made = given-count caller need place calls writes events (writes-none caller words 0 caller place value) in
-    let all : answered_in caller (calls ++ writes ++ Free caller held.place ∷ []) ≡ answered_in caller (calls ++ writes) + 0 =
-    answered-append caller (calls ++ writes) (Free caller held.place ∷ []) in
-    ap (answered_in caller) is ∙ omega arith
-count-at setting position (op.Resize r need) (Some held) outcome.Refused piece row = refusing-count setting.caller need (need_of need) piece row.2
-count-at setting position (op.Resize r need) (Some held) outcome.Spent piece row = spent-count setting position need piece position.spent row.1
-count-at setting position (op.Alloc r need v) None outcome.Skipped piece row = absurd row
-count-at setting position (op.Take r shelf) None outcome.Skipped piece row = absurd row
-count-at setting position operation None outcome.Skipped piece row = ap (answered_in setting.caller) row
-count-at setting position operation None result piece row = absurd row
-count-at setting position operation (Some held) result piece row = absurd row
+    let freed = freeing caller (is_kept depth (magazines_given position.magazines (need_of need)) held.need) held.place in
+    let made = handed-count setting position need place calls writes (served_by position.magazines (need_of need)) given
+    (writes-none caller words 0 caller place value) in
+    let none : answered_in caller freed ≡ 0 = freeing-none caller _ held.place in
+    ap (answered_in caller) is ∙ omega (arith, answered-append caller (calls ++ writes) freed, made, none)
+count-by setting depth position r deed.frees piece (held, full, is) = ap (answered_in setting.caller) is ∙ freeing-none setting.caller _ held.place
+count-by setting depth position r deed.lays piece (held, full, shelf, is) = ap (answered_in setting.caller) is
+count-by setting depth position r (deed.takes words place need) piece (shelf, row) = ap (answered_in setting.caller) row.0
+count-by setting depth position r (deed.refuses need) piece events = refusing-count setting.caller need (need_of need) piece events
+count-by setting depth position r (deed.spends need) piece spent = spent-count setting position.base need piece position.base.spent spent
+count-by setting depth position r deed.stays piece milds = mild-none setting.caller setting.caller piece milds
 
--- how many small allocations were answered, with one operation more
+-- how many small allocations were answered, with one operation more, also through a cache
+pub cached-answered :
+    (setting : Setting) (depth : ℕ) (position : CachedPosition) (operation : Op) (result : Outcome) (piece : List Event)
+    → CachedRow setting depth position operation result piece → position.base.answered ≡ answered_in setting.caller position.base.done
+    → answered_by (served_for position.magazines operation result) position.base.answered operation result
+    ≡ answered_in setting.caller (position.base.done ++ piece)
+cached-answered setting depth position operation result piece row so_far =
+    answered-more position.magazines position.base.answered operation result (deed_of operation result) refl
+    ∙ piece-count setting.caller position.base.done piece position.base.answered _ so_far
+    (count-by setting depth position (register_of operation) (deed_of operation result) piece (row-adds setting depth position operation result piece row))
+
+none-for : (done : Deed) → served_with empty_magazines done ≡ None
+none-for (deed.gives need v words place) = none-served (need_of need)
+none-for (deed.replaces need words place) = none-served (need_of need)
+none-for done = refl
+
 pub answered-row :
     (setting : Setting) (position : Position) (operation : Op) (result : Outcome) (piece : List Event) → FitsRow setting position operation result piece
     → position.answered ≡ answered_in setting.caller position.done
     → answered_after position.answered operation result ≡ answered_in setting.caller (position.done ++ piece)
 answered-row setting position operation result piece row so_far =
-    answered-more position.answered operation result
-    ∙ piece-count setting.caller position.done piece position.answered (answers_of operation result) so_far
-    (count-at setting position operation (slot_of position.registers operation) result piece (row-at setting position operation result piece row))
+    sym (ap (λ served. answered_by served position.answered operation result) (none-for (deed_of operation result)))
+    ∙ cached-answered setting 0 (plain position) operation result piece (row-room setting position operation result piece row) so_far
 
 -- an event of another caller's is no answer to this one
 others-answer : (caller : ℕ) (event : Event) → eqb (caller_of event) caller ≡ false → answers caller event ≡ 0

@@ -5,6 +5,7 @@ use Rattle.pool_model.specs.declared.event.Event.{Event}
 use Rattle.pool_model.specs.Histories.{own}
 use Rattle.trace_text.specs.declared.trace.Op.{Op}
 use Rattle.lane_engine.specs.Callers.{Caller, IsCall}
+use Rattle.lane_outcomes.specs.Deeds.{register_of}
 use Rattle.lane_outcomes.specs.declared.outcome.Outcome.{Outcome}
 use Rattle.lane_outcomes.specs.declared.outcome.Outcome.TheVariants as outcome
 use Rattle.lane_outcomes.specs.Fits.{Walks}
@@ -12,7 +13,7 @@ use Rattle.lane_outcomes.specs.Lane.{Position, held_in, position_after, register
 use Rattle.lane_outcomes.specs.Rows.{FitsRow}
 use Rattle.lane_outcomes.specs.Standing.{setting_in}
 use Rattle.lane_outcomes.proofs.FitLemmas.{row-later}
-use Rattle.trace_lane.specs.Made.{AllMade, register_of}
+use Rattle.trace_lane.specs.Made.{AllMade}
 use Rattle.trace_lane.proofs.AddedLemmas.{HasAdded}
 use Rattle.trace_lane.proofs.AnswerLemmas.{HasMovedOn}
 use Rattle.trace_lane.proofs.CallerLemmas.{Owns, caller-laws, moved-none, moved-then}

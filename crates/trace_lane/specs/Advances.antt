@@ -26,6 +26,7 @@ use Rattle.lane_engine.specs.Begins.{call_of}
 use Rattle.lane_engine.specs.Engines.{Engine, machine_at}
 use Rattle.lane_engine.specs.Machines.{MovesCore}
 use Rattle.lane_engine.specs.Told.{HasStepped}
+use Rattle.lane_outcomes.specs.Deeds.{register_of}
 use Rattle.lane_outcomes.specs.declared.registers.HeldBlock.{HeldBlock}
 use Rattle.lane_outcomes.specs.declared.outcome.Outcome.{Outcome}
 use Rattle.lane_outcomes.specs.Lane.{held_in, registers_after}
@@ -34,7 +35,7 @@ use Rattle.trace_lane.specs.declared.stage.OperationStage.{OperationStage}
 use Rattle.trace_lane.specs.declared.stage.OperationStage.TheVariants as stage
 use Rattle.trace_lane.specs.Begun.{calls_of}
 use Rattle.trace_lane.specs.Doing.{DoingOf, call_at}
-use Rattle.trace_lane.specs.Made.{MadeFor, calls_in, register_of}
+use Rattle.trace_lane.specs.Made.{MadeFor, calls_in}
 use Rattle.trace_lane.specs.Paths.{FirstPassed, IsBy, MovesLead, begun_count, held_blocks}
 use Rattle.trace_lane.specs.Scripts.{script_left, stage_begun}
 use Rattle.trace_lane.specs.States.{IsLaneOf, IsLaneOn, StandsOn}

@@ -10,10 +10,11 @@ use Rattle.sound_laws.specs.events.Made.{Made, answered, copied, found_from, wro
 use Rattle.trace_text.specs.declared.limits.TheConstants.{REGISTERS}
 use Rattle.trace_text.specs.declared.trace.Op.{Op}
 use Rattle.trace_text.specs.declared.trace.Op.TheVariants as op
+use Rattle.lane_outcomes.specs.Deeds.{register_of}
 use Rattle.lane_outcomes.specs.declared.registers.HeldBlock.{HeldBlock}
 use Rattle.lane_outcomes.specs.declared.outcome.Outcome.{Outcome}
 use Rattle.lane_outcomes.specs.Lane.{held_in, registers_after}
-use Rattle.trace_lane.specs.Made.{AreMisses, MadeFor, OnBlock, register_of}
+use Rattle.trace_lane.specs.Made.{AreMisses, MadeFor, OnBlock}
 use Rattle.trace_lane.specs.Scripts.{registers_from}
 use Rattle.trace_lane.specs.declared.stage.OperationStage.{OperationStage}
 use Rattle.trace_lane.specs.declared.stage.OperationStage.TheVariants as stage

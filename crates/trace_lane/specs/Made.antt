@@ -11,6 +11,7 @@ use Rattle.trace_text.specs.declared.trace.Op.{Op}
 use Rattle.trace_text.specs.declared.trace.Op.TheVariants as op
 use Rattle.sound_laws.specs.events.Made.{LeadsBy, Made, answered, copied, found_from, wrote}
 use Rattle.lane_engine.specs.Whole.{Maker}
+use Rattle.lane_outcomes.specs.Deeds.{register_of}
 use Rattle.lane_outcomes.specs.declared.registers.HeldBlock.{HeldBlock}
 use Rattle.lane_outcomes.specs.declared.outcome.Outcome.{Outcome}
 use Rattle.lane_outcomes.specs.declared.outcome.Outcome.TheVariants as outcome
@@ -56,16 +57,6 @@ Skips None (op.Check r) = Unit {0}
 Skips None (op.Put r shelf) = Unit {0}
 Skips None (op.Resize r need) = Unit {0}
 Skips register operation = ⊥
-
--- the register that an operation is on
-abbrev pub register_of : Op → ℕ
-register_of (op.Alloc r need v) = r
-register_of (op.Free r) = r
-register_of (op.Fill r v) = r
-register_of (op.Check r) = r
-register_of (op.Put r shelf) = r
-register_of (op.Take r shelf) = r
-register_of (op.Resize r need) = r
 
 -- the whole calls of an operation with its outcome, where its register held this
 abbrev pub MadeFor : Option HeldBlock → Op → Outcome → List Made → Type 0

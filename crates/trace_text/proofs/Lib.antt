@@ -1,3 +1,5 @@
+pub mod CanonicalLemmas
+pub mod CanonicalReading
 pub mod FieldLemmas
 pub mod LawLemmas
 pub mod LineLemmas

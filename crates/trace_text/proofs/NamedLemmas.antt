@@ -91,7 +91,7 @@ three_ok (a ∷ b ∷ c ∷ []) n e =
 three_ok (a ∷ b ∷ c ∷ d ∷ fields) n e = absurd cc
 
 -- an operation that a text of this version can name
-abbrev IsNamed : Version → Op → Type 0
+abbrev pub IsNamed : Version → Op → Type 0
 IsNamed version op = IsOp op × IsAllowed version op
 
 alloc_ok : (version : Version) (fields : List (List ℕ)) (op : Op) → alloc_in fields ≡ Ok op → IsNamed version op
@@ -235,7 +235,8 @@ heap_ok version fields trace e =
       refl,
     )
 
-length-last_with : (op : Op) (lanes : List (List Op)) → length (last_with op lanes) ≡ length lanes
+-- one operation more leaves as many lanes
+pub length-last_with : (op : Op) (lanes : List (List Op)) → length (last_with op lanes) ≡ length lanes
 length-last_with op [] = refl
 length-last_with op (last ∷ []) = refl
 length-last_with op (lane ∷ next ∷ more) = ap (λ (n : ℕ). suc n) (length-last_with op (next ∷ more))

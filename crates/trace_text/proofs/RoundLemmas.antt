@@ -48,7 +48,7 @@ are_two name a b h x y = (h, (IsField-decimal a x, (IsField-decimal b y, tt)))
 are_three : (name : List ℕ) (a b c : ℕ) → IsField name → a < 2 ^ 64 → b < 2 ^ 64 → c < 2 ^ 64 → AreFields (name ∷ decimal a ∷ decimal b ∷ decimal c ∷ [])
 are_three name a b c h x y z = (h, (IsField-decimal a x, (IsField-decimal b y, (IsField-decimal c z, tt))))
 
-op_are_fields : (op : Op) → IsOp op → AreFields (op_fields op)
+pub op_are_fields : (op : Op) → IsOp op → AreFields (op_fields op)
 unfolding op_fields
 op_are_fields (Alloc r need v) h = are_three (codes "a") r need v (record { some = refl; graphic = refl }) (omega (arith, h.0)) (omega (arith, h.1)) h.2
 op_are_fields (Free r) h = are_one (codes "f") r (record { some = refl; graphic = refl }) (omega arith)
@@ -58,7 +58,7 @@ op_are_fields (Put r shelf) h = are_two (codes "p") r shelf (record { some = ref
 op_are_fields (Take r shelf) h = are_two (codes "t") r shelf (record { some = refl; graphic = refl }) (omega (arith, h.0)) (omega (arith, h.1))
 op_are_fields (Resize r need) h = are_two (codes "r") r need (record { some = refl; graphic = refl }) (omega (arith, h.0)) (omega (arith, h.1))
 
-op_some : (op : Op) → 0 < length (op_fields op)
+pub op_some : (op : Op) → 0 < length (op_fields op)
 unfolding op_fields
 op_some (Alloc r need v) = omega arith
 op_some (Free r) = omega arith
@@ -103,7 +103,7 @@ op_of-resize One fields e = absurd cc
 op_of-resize Two fields e = refl
 
 -- the line of an operation, in a lane, leads to the trace with that operation more
-op_after :
+pub op_after :
     (trace : Trace) (op : Op) → IsOp op → IsAllowed trace.version op → 0 < length trace.lanes → length trace.orders ≡ 0
     → after_fields Two (Inside trace) (op_fields op) ≡ Ok (Inside (with_op trace op))
 unfolding op_fields after_fields after_word after_inner after_op op_in alloc_in free_in fill_in check_in put_in take_in resize_in

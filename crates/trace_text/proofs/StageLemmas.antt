@@ -1,8 +1,6 @@
 -- A loop over the lines, one after the other.
-use Rattle.std.proofs.Common.{◌≡◌, ℕ, zero, suc, ◌+◌, ◌<◌, true, ◌&&◌, List, [], ◌∷◌, ◌++◌, length, get_or, set, map, Ok, Err, refl, sym, ap, subst, arith}
+use Rattle.std.proofs.Common.{◌≡◌, ℕ, zero, suc, ◌+◌, true, ◌&&◌, List, [], ◌∷◌, ◌++◌, length, get_or, set, map, Ok, Err, refl, ap, subst, arith}
 use Rattle.std.specs.Prelude.{nat_lt}
-use Rattle.std.proofs.lemmas.Bool.{lt-ltb}
-use Rattle.std.proofs.lemmas.List.{map-append}
 use Rattle.trace_text.specs.declared.fault.Stop.{Stop}
 use Rattle.trace_text.specs.declared.fault.Stop.TheVariants as stops
 use Rattle.trace_text.specs.declared.stage.ReadingStage.{ReadingStage}
@@ -52,17 +50,9 @@ last_given items op (lane ∷ next ∷ lanes) zero last given is was more = absu
 last_given items op (lane ∷ next ∷ lanes) (suc i) last given is was more =
     ap (λ lanes. items lane ∷ lanes) (last_given items op (next ∷ lanes) i last given (omega (arith, is)) was more)
 
--- a trace with some lane and no order run passes the test for an operation's line
-in_lane : (trace : Trace) → (trace.lanes ≡ [] → ⊥) → trace.orders ≡ [] → (nat_lt 0 (length trace.lanes) && is_unordered trace) ≡ true
-in_lane trace some none = rw (none, lt-ltb 0 (length trace.lanes) (some_length trace.lanes some)) refl
-  where
-    some_length : (lanes : List (List Op)) → (lanes ≡ [] → ⊥) → 0 < length lanes
-    some_length [] some = absurd (some refl)
-    some_length (lane ∷ lanes) some = omega arith
-
 -- an operation that a line says in a lane is one more in the last lane
 pub op_taken :
-    (trace : Trace) (word : List ℕ) (fields : List (List ℕ)) (op : Op) (lanes : List (List Op)) → (trace.lanes ≡ [] → ⊥) → trace.orders ≡ []
+    (trace : Trace) (word : List ℕ) (fields : List (List ℕ)) (op : Op) (lanes : List (List Op)) → (nat_lt 0 (length trace.lanes) && is_unordered trace) ≡ true
     → op_of trace.version word fields ≡ Ok op → lanes ≡ last_with op trace.lanes → after_op trace word fields ≡ Ok (Inside (record trace { lanes = lanes }))
 unfolding after_op
-op_taken trace word fields op lanes some none said more = rw (in_lane trace some none, said, more) refl
+op_taken trace word fields op lanes here said more = rw (here, said, more) refl

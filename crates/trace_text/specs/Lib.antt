@@ -1,3 +1,4 @@
+pub mod Canonical
 pub mod Causes
 pub mod Lines
 pub mod Numbers

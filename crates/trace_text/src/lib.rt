@@ -1,6 +1,7 @@
 //! Traces as text: what a trace is, the one canonical text of each, the reader and the printer.
 #![tactic(auto)]
 
+mod canonical;
 pub mod fault;
 mod fields;
 pub mod laws;

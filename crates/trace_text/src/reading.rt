@@ -54,7 +54,10 @@ pub fn read_trace(alloc: Global, text: &[u8]) -> Result<Trace, TraceFault>
         if let Err(stop) = stage.read_line(alloc, line) {
             return Err(fault_at(number, stop));
         }
-        number += 1;
+        let Ok((ops, after)) = stage.read_ops(after) else {
+            return Err(TraceFault::OutOfMemory);
+        };
+        number += 1 + ops;
         rest = after;
     }
     whole_trace(stage, number)

@@ -1,15 +1,17 @@
 //! Where the reader stands in a text, and what one line says there.
 
-ghost use Rattle.std.specs.Prelude.{◌≡◌, codes, true, false};
+ghost use Rattle.std.specs.Prelude.{◌≡◌, ◌+◌, ◌≤◌, ◌&&◌, ℕ, codes, length, nat_lt, true, false, IfOk};
 ghost use Rattle.std.specs.List.{list_all};
 ghost use Rattle.std.specs.Str.{bytes_eq};
 ghost use Rattle.trace_text.specs.Causes.{Leaves};
-ghost use Rattle.trace_text.specs.Lines.{fields_of, is_plain};
-ghost use Rattle.trace_text.specs.Said.{heap_in, version_in, after_lane, after_order, after_op, after_inner, after_first, after_word, after_line};
+ghost use Rattle.trace_text.specs.Lines.{fields_of, is_plain, lines_of};
+ghost use Rattle.trace_text.specs.Reading.{reading_from};
+ghost use Rattle.trace_text.specs.Said.{heap_in, version_in, is_unordered, after_lane, after_order, after_op, after_inner, after_first, after_word, after_line};
 ghost use Rattle.trace_text.specs.Stages.{HasTrace};
 ghost use Rattle.trace_text.specs.Traces.{IsTrace};
 ghost use Rattle.trace_text.specs.declared.fault.Cause.TheVariants.{NotAscii};
 ghost use Rattle.trace_text.specs.declared.fault.Stop.TheVariants as stops;
+ghost use Rattle.trace_text.specs.declared.limits.TheConstants.{MAX_INPUT};
 ghost use Rattle.trace_text.specs.declared.stage.ReadingStage.TheVariants.{Inside, Ended};
 ghost use Rattle.trace_text.specs.declared.trace.Trace.{Trace};
 ghost use Rattle.trace_text.specs.declared.trace.Version.TheVariants.{Two};
@@ -21,7 +23,7 @@ use crate::lines::{first_field, is_comment, is_plain};
 use crate::trace::{Lanes, Orders, Trace, Version};
 use heap_geometry::geometry::Geometry;
 use heap_geometry::limits::{MAX_FRAMES, MAX_HEAPS, MAX_TURNS, MAX_UNITS};
-use std::alloc::Global;
+use std::alloc::{AllocError, Global};
 use std::mem;
 
 /// Where the reader stands: before the heap line, behind it with the trace so far, or behind `end`
@@ -101,17 +103,41 @@ fn order_run(trace: &mut Trace, fields: &[u8]) -> Result<(), Stop>
     Ok(())
 }
 
+/// Whether operations may stand here: a line `lane` and no order line came before.
+fn is_in_lane(trace: &Trace) -> bool
+    ensures { result ≡ (nat_lt 0 (length trace.now.lanes) && is_unordered trace.now) }
+{
+    !trace.lanes.is_empty() && trace.orders.is_empty()
+}
+
 /// An operation of the last lane.
 #[tactic(auto, unfolding(crate::specs::Said::after_op))]
 fn operation(trace: &mut Trace, word: &[u8], fields: &[u8]) -> Result<(), Stop>
     ensures { Leaves result (Inside trace.new) (after_op trace.old word.now (fields_of fields.now)) }
 {
-    if trace.lanes.is_empty() || !trace.orders.is_empty() {
+    if !is_in_lane(trace) {
         return Err(Stop::Because(Cause::UnknownOp));
     }
     let op = op(trace.version, word, fields)?;
     trace.lanes.push_op(op)?;
     Ok(())
+}
+
+/// Operations of the last lane, as long as their lines are as printed: how many lines there are,
+/// and what is left behind them.
+fn lane_ops<'a>(trace: &mut Trace, text: &'a [u8]) -> Result<(u32, &'a [u8]), AllocError>
+    requires named { IsTrace trace.old }
+    requires few { length text.now ≤ MAX_INPUT }
+    ensures reads { IfOk result (λ p. (number : ℕ) → reading_from Two (lines_of text.now) number (Inside trace.old)
+        ≡ reading_from Two (lines_of p.1.now) (number + p.0) (Inside trace.new)) }
+    ensures named { IfOk result (λ _. IsTrace trace.new) }
+    ensures shorter { IfOk result (λ p. p.0 + length p.1.now ≤ length text.now) }
+{
+    if !is_in_lane(trace) {
+        return Ok((0, text));
+    }
+    let (ops, rest) = trace.lanes.read_ops(trace.version, text)?;
+    Ok((ops, rest))
 }
 
 /// A line between the heap line and `end`.
@@ -196,6 +222,22 @@ impl ReadingStage {
             }
             _ if is_plain(line) => Ok(()),
             _ => Err(Stop::Because(Cause::NotAscii)),
+        }
+    }
+
+    /// Reads the operations of a lane that come first in a text, as long as their lines are as
+    /// printed: how many lines there are, and what is left behind them.
+    pub(crate) fn read_ops<'a>(&mut self, text: &'a [u8]) -> Result<(u32, &'a [u8]), AllocError>
+        requires named { HasTrace self.old }
+        requires few { length text.now ≤ MAX_INPUT }
+        ensures reads { IfOk result (λ p. (number : ℕ) → reading_from Two (lines_of text.now) number self.old
+            ≡ reading_from Two (lines_of p.1.now) (number + p.0) self.new) }
+        ensures named { IfOk result (λ _. HasTrace self.new) }
+        ensures shorter { IfOk result (λ p. p.0 + length p.1.now ≤ length text.now) }
+    {
+        match self {
+            ReadingStage::Inside(trace) => lane_ops(trace, text),
+            _ => Ok((0, text)),
         }
     }
 }

@@ -1,9 +1,11 @@
 //! A text in the making: lines of fields, each field parted from the one before by a space.
 
-ghost use Rattle.std.specs.Prelude.{◌≡◌, ◌∷◌, ◌++◌, [], decimal, OnOk};
+ghost use Rattle.std.specs.Prelude.{◌≡◌, ◌∷◌, ◌++◌, ◌<◌, [], decimal, OnOk};
 ghost use Rattle.trace_text.specs.declared.limits.TheConstants.{SPACE, LINE_FEED};
 ghost use Rattle.trace_text.specs.Text.{line};
 
+use crate::limits::ZERO;
+use itoa::Buffer;
 use std::alloc::{AllocError, Global};
 use std::marker::Model;
 
@@ -33,6 +35,7 @@ impl Text {
     }
 
     /// The first field of a line.
+    #[inline(always)]
     pub fn begin(&mut self, word: &str) -> Result<(), AllocError>
         ensures { OnOk result (self.new ≡ self.old ++ word.now) }
     {
@@ -43,17 +46,35 @@ impl Text {
     pub fn word(&mut self, word: &str) -> Result<(), AllocError>
         ensures { OnOk result (self.new ≡ self.old ++ SPACE ∷ word.now) }
     {
-        write!(self.written, " {word}")
+        self.written.push(' ')?;
+        self.written.push_str(word)?;
+        Ok(())
+    }
+
+    /// One more field of the line, which is a digit.
+    #[inline(always)]
+    fn digit(&mut self, digit: u8) -> Result<(), AllocError>
+        requires { digit < 10 }
+        ensures { OnOk result (self.new ≡ self.old ++ SPACE ∷ decimal digit) }
+    {
+        self.written.push(' ')?;
+        self.written.push(char::from(ZERO + digit))?;
+        Ok(())
     }
 
     /// One more field of the line.
     pub fn number(&mut self, number: u64) -> Result<(), AllocError>
         ensures { OnOk result (self.new ≡ self.old ++ SPACE ∷ decimal number) }
     {
-        write!(self.written, " {number}")
+        if number < 10 {
+            return self.digit(number as u8);
+        }
+        let mut buffer = Buffer::new();
+        self.word(buffer.format(number))
     }
 
     /// The end of the line.
+    #[inline(always)]
     pub fn end_line(&mut self) -> Result<(), AllocError>
         ensures { OnOk result (self.new ≡ self.old ++ LINE_FEED ∷ []) }
     {
@@ -61,6 +82,7 @@ impl Text {
     }
 
     /// A line of one field, or of several that a space parts already.
+    #[inline(always)]
     pub fn line(&mut self, words: &str) -> Result<(), AllocError>
         ensures { OnOk result (self.new ≡ self.old ++ line (words.now ∷ [])) }
     {
@@ -69,6 +91,7 @@ impl Text {
     }
 
     /// A line of a word and a number.
+    #[inline(always)]
     pub fn line_with(&mut self, word: &str, number: u64) -> Result<(), AllocError>
         ensures { OnOk result (self.new ≡ self.old ++ line (word.now ∷ decimal number ∷ [])) }
     {

@@ -1,9 +1,13 @@
 //! What a trace is: the heap that it runs on, and what each lane does there.
 
-ghost use Rattle.std.specs.Prelude.{◌≡◌, ◌↔◌, ◌++◌, ◌∷◌, [], length, map, IsTrue, OnOk, OnErr};
+ghost use Rattle.std.specs.Prelude.{◌≡◌, ◌↔◌, ◌++◌, ◌∷◌, ◌+◌, ◌≤◌, List, [], length, map, IfOk, IsTrue, OnOk, OnErr};
+ghost use Rattle.trace_text.specs.Canonical.{BeginsWithOps, last_with_all};
 ghost use Rattle.trace_text.specs.Said.{last_with};
 ghost use Rattle.trace_text.specs.Traces.{heap_word};
+ghost use Rattle.trace_text.specs.declared.limits.TheConstants.{MAX_INPUT};
+ghost use Rattle.trace_text.specs.declared.trace.Op.{Op};
 
+use crate::canonical::read_ops;
 use heap_geometry::geometry::Geometry;
 use std::alloc::{AllocError, Global};
 use std::marker::Model;
@@ -91,6 +95,23 @@ fn push_onto_last(lanes: &mut Vec<Vec<Op>>, op: Op) -> Result<(), AllocError>
     Ok(())
 }
 
+/// Reads operations into the last of some lists, as `read_ops` does.
+fn read_onto_last<'a>(
+    lanes: &mut Vec<Vec<Op>>,
+    version: Version,
+    text: &'a [u8],
+) -> Result<(u32, &'a [u8]), AllocError>
+    requires { length text.now ≤ MAX_INPUT }
+    ensures ops { IfOk result (λ p. (more : List Op) × (map (λ ops. ops.items) lanes.new.items ≡ last_with_all more (map (λ ops. ops.items) lanes.old.items)) × (length more ≡ p.0) × BeginsWithOps version text.now more p.1.now) }
+    ensures shorter { IfOk result (λ p. p.0 + length p.1.now ≤ length text.now) }
+{
+    let Some(last) = lanes.last_mut() else {
+        return Ok((0, text));
+    };
+    let (ops, rest) = read_ops(version, last, text)?;
+    Ok((ops, rest))
+}
+
 impl Model for Lanes {
     ghost use Rattle.std.specs.Prelude.{List, map};
     ghost use Rattle.trace_text.specs.declared.trace.Op.{Op};
@@ -142,6 +163,20 @@ impl Lanes {
         ensures { OnOk result (self.new ≡ last_with op self.old) }
     {
         push_onto_last(&mut self.lanes, op)
+    }
+
+    /// Reads operations into the last lane, as long as their lines are as printed: how many there
+    /// are, and what is left behind them. Where memory is not found, the lanes may be others.
+    pub(crate) fn read_ops<'a>(
+        &mut self,
+        version: Version,
+        text: &'a [u8],
+    ) -> Result<(u32, &'a [u8]), AllocError>
+        requires { length text.now ≤ MAX_INPUT }
+        ensures ops { IfOk result (λ p. (more : List Op) × (self.new ≡ last_with_all more self.old) × (length more ≡ p.0) × BeginsWithOps version text.now more p.1.now) }
+        ensures shorter { IfOk result (λ p. p.0 + length p.1.now ≤ length text.now) }
+    {
+        read_onto_last(&mut self.lanes, version, text)
     }
 
     /// The lanes, given back.

@@ -27,6 +27,7 @@ pub struct Node {
 }
 
 /// The node in a block.
+#[inline(always)]
 pub(crate) fn read_node(heap: &Heap, pass: &mut Pass, block: &Block) -> Node
     requires of { IsOf heap.now pass.old }
     requires idle { IsIdle pass.old.errand }
@@ -43,6 +44,7 @@ pub(crate) fn read_node(heap: &Heap, pass: &mut Pass, block: &Block) -> Node
 }
 
 /// Writes a node into a block of which no word is written.
+#[inline(always)]
 pub(crate) fn write_node(heap: &Heap, pass: &mut Pass, block: &Block, node: Node)
     requires of { IsOf heap.now pass.old }
     requires idle { IsIdle pass.old.errand }
@@ -57,6 +59,7 @@ pub(crate) fn write_node(heap: &Heap, pass: &mut Pass, block: &Block, node: Node
 }
 
 /// Lets a node lead to another one.
+#[inline(always)]
 pub(crate) fn write_next(heap: &Heap, pass: &mut Pass, block: &Block, next: u64)
     requires of { IsOf heap.now pass.old }
     requires idle { IsIdle pass.old.errand }

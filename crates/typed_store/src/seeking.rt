@@ -92,6 +92,7 @@ pub(crate) fn list_pairs(
 }
 
 /// Lets what leads to a node lead to the one behind it.
+#[inline(always)]
 pub(crate) fn relink(
     heap: &Heap,
     pass: &mut Pass,

@@ -21,6 +21,7 @@ pub enum Slot {
 }
 
 /// The token in a slot that holds one.
+#[inline(always)]
 pub(crate) fn token(slots: &Vec<Slot>, slot: usize) -> &Block
     requires { (block : Block) × (slice_get slots.now.items slot ≡ Some (kind.Node block)) }
     ensures { slice_get slots.now.items slot ≡ Some (kind.Node result.now) }
@@ -32,6 +33,7 @@ pub(crate) fn token(slots: &Vec<Slot>, slot: usize) -> &Block
 }
 
 /// Sees to it that a slot is spare. Where memory is wanted, all is as before.
+#[inline(always)]
 pub(crate) fn make_room(slots: &mut Vec<Slot>, unused: &mut u64) -> Result<(), AllocError>
     requires { IsSpare slots.old.items unused.old }
     ensures ok { OnOk result (unused.new ≢ 0) }
@@ -50,6 +52,7 @@ pub(crate) fn make_room(slots: &mut Vec<Slot>, unused: &mut u64) -> Result<(), A
 }
 
 /// Puts a token into the first spare slot, and answers its number.
+#[inline(always)]
 pub(crate) fn put_in(slots: &mut Vec<Slot>, unused: &mut u64, block: Block) -> u64
     requires one { unused.old ≢ 0 }
     requires spare { (next : ℕ) × (slice_get slots.old.items (unused.old - 1) ≡ Some (kind.Spare next)) }
@@ -67,6 +70,7 @@ pub(crate) fn put_in(slots: &mut Vec<Slot>, unused: &mut u64, block: Block) -> u
 }
 
 /// Takes the token out of a slot, which is the first spare one then.
+#[inline(always)]
 pub(crate) fn take_out(slots: &mut Vec<Slot>, unused: &mut u64, slot: usize) -> Block
     requires { (block : Block) × (slice_get slots.old.items slot ≡ Some (kind.Node block)) }
     ensures block { slice_get slots.old.items slot ≡ Some (kind.Node result) }

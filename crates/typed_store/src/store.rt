@@ -107,6 +107,7 @@ impl Store {
     }
 
     /// Puts a pair in front. Room for it in the store is taken first, and then a block of the heap.
+    #[inline(always)]
     pub fn push_front(
         &mut self,
         heap: &Heap,
@@ -130,6 +131,7 @@ impl Store {
     }
 
     /// Asks for a block for a pair, for which there is room.
+    #[inline(always)]
     fn ask_for_node(&mut self, heap: &Heap, key: u64, value: u64, tries: u32) -> Stored
         requires ready { IsReady heap.now self.old }
         requires room { self.old.unused ≢ 0 }
@@ -156,6 +158,7 @@ impl Store {
     }
 
     /// Puts a pair in front, into a block of which no word is written.
+    #[inline(always)]
     fn link(&mut self, heap: &Heap, block: Block, key: u64, value: u64)
         requires of { IsOf heap.now self.old.pass }
         requires idle { IsIdle self.old.pass.errand }
@@ -181,6 +184,7 @@ impl Store {
     }
 
     /// Takes the first pair out.
+    #[inline(always)]
     pub fn pop_front(&mut self, heap: &Heap, tries: u32) -> Popped
         requires ready { IsReady heap.now self.old }
         requires tries { 0 < tries }
@@ -228,6 +232,7 @@ impl Store {
     }
 
     /// Takes a node out of the list, and frees its block.
+    #[inline(always)]
     fn unlink(&mut self, heap: &Heap, sought: Sought, tries: u32) -> Popped
         requires ready { IsReady heap.now self.old }
         requires tries { 0 < tries }

@@ -1,5 +1,5 @@
 -- The words that are out come in, and go out again where they are C's still.
-use Rattle.plain_words.proofs.Names.{◌≡◌, ℕ, ◌^◌, ◌<◌, List, [], ◌∷◌, refl, ap, named, Val, vint, vptr, SProp, emp, ‵, raw, ◌⊛◌, some, later, ◌$◌, ◌∵◌, !, qed, by, move, keep, drop, split, join, pick, fsplit, fjoin, fpack, await, use0, use1, feq_i, flt_i, stop, fld, lit, of_opd, no_more, and_then, returns, enter, alloc_all, pass_all, free_all, look_at, get, get_in, through, sets, sub, whole, agg, tables, yes, RattleType, owns, types_at, plain, Ptr, ptr_val, nothing, heard, alive, Stays, stay_dropped, walk_of, Goes-dropped, fact, fact_i, id⊢, mut_vals, mut_Tells, uint_vals, uint_Tells, u64, w64, proved, leaves}
+use Rattle.plain_words.proofs.Names.{◌≡◌, ℕ, ◌^◌, ◌<◌, List, [], ◌∷◌, refl, ap, named, Val, vint, vptr, SProp, emp, ‵, raw, ◌⊛◌, some, later, ◌$◌, ◌∵◌, !, qed, by, move, keep, drop, split, join, pick, fsplit, fjoin, fpack, await, use0, use1, feq_i, flt_i, stop, fld, lit, of_opd, no_more, and_then, returns, enter, alloc_all, pass_all, free_all, look_at, get, get_in, through, sets, sub, whole, agg, tables, yes, RattleType, owns, types_at, plain, nothing, heard, alive, Stays, stay_dropped, walk_of, Goes-dropped, fact, fact_i, id⊢, mut_vals, mut_Tells, uint_vals, uint_Tells, u64, w64, proved, leaves}
 use Rattle.std.proofs.Common.{w32}
 use lib.Dec.{lit<}
 use base.Fml.{fex}
@@ -13,7 +13,6 @@ use denote.Triple.Clauses.{Lasts, lasts}
 use denote.Triple.Spec.{triple_of}
 use denote.Triple.Walked.{gave_ref, Goes-gave_ref}
 use Rattle.std.specs.Prelude.{Option}
-use Rattle.std_alloc.proofs.RcSteps.{Ptr-Good}
 use Rattle.core.proofs.atomic.Steps.{fm}
 use Rattle.plain_words.specs.declared.plain.PlainWords.{PlainWords}
 use Rattle.balloc_c.specs.Handled.{BringsBy, IsBackOf}

@@ -8,7 +8,8 @@ use Rattle.trace_text.specs.declared.limits.TheConstants.{REGISTERS}
 use Rattle.trace_text.specs.declared.trace.Op.{Op}
 use Rattle.trace_text.specs.declared.trace.Op.TheVariants.{Alloc, Free, Fill, Resize}
 use Rattle.lane_outcomes.specs.LaneCounts.{as_one, count_with}
-use Rattle.roomy_traces.specs.Roomy.{Filled, moves, register_of, filled_in, serial_step, serial_after, held_by, held_during, most_held, no_blocks}
+use Rattle.lane_outcomes.specs.Deeds.{register_of}
+use Rattle.roomy_traces.specs.Roomy.{Filled, moves, filled_in, serial_step, serial_after, held_by, held_during, most_held, no_blocks}
 
 -- the registers are empty from this one on
 abbrev pub IsNarrow : ℕ → List (Option Filled) → Type 0

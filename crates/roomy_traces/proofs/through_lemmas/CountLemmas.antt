@@ -1,5 +1,5 @@
 -- The events of an operation through a cache: how many blocks they give and free, and that they refuse small needs alone.
-use Rattle.std.proofs.Common.{ℕ, Bool, true, false, ◌≡◌, ◌+◌, ◌≤◌, ◌%◌, ◌^◌, List, [], ◌∷◌, ◌++◌, Option, Some, None, cond, count_by, length, map, replicate, refl, sym, ◌∙◌, ap, subst, inl, inr, arith}
+use Rattle.std.proofs.Common.{ℕ, Bool, true, false, ◌≡◌, ◌+◌, ◌≤◌, ◌%◌, ◌^◌, List, [], ◌∷◌, ◌++◌, Option, Some, None, cond, count_by, length, map, replicate, refl, sym, ◌∙◌, subst, inl, inr, arith}
 use Rattle.std.specs.Prelude.{slice_set, flat_map}
 use Rattle.std.specs.List.{AllByRecursion}
 use Rattle.std.proofs.lemmas.Bool.{cases_lt}
@@ -12,21 +12,22 @@ use Rattle.pool_model.specs.declared.event.Event.TheVariants.{Free}
 use Rattle.pool_model.specs.Counts.{is_alloc, is_free}
 use Rattle.pool_model.proofs.NeedOfLemmas.{need_of-within}
 use Rattle.trace_text.specs.declared.trace.Op.{Op}
-use Rattle.trace_text.specs.declared.trace.Op.TheVariants as op
 use Rattle.lane_outcomes.specs.declared.registers.HeldBlock.{HeldBlock}
 use Rattle.lane_outcomes.specs.declared.outcome.Outcome.{Outcome}
-use Rattle.lane_outcomes.specs.declared.outcome.Outcome.TheVariants as outcome
-use Rattle.lane_outcomes.specs.Cached.{CachedPosition, CachedRow, IsGivenBy, hit_of, magazines_after, served_for}
+use Rattle.lane_outcomes.specs.Cached.{CachedPosition, CachedRow, IsGivenBy, hit_of, magazines_by, served_with}
 use Rattle.lane_outcomes.specs.Lane.{held_in, registers_after, writing}
-use Rattle.lane_outcomes.specs.LaneCounts.{as_one, count_with, words_freed, words_given}
+use Rattle.lane_outcomes.specs.LaneCounts.{as_one, count_with}
 use Rattle.lane_outcomes.specs.Magazines.{emptying, freeing, is_kept, magazines_given, served_by}
-use Rattle.lane_outcomes.specs.Rows.{Setting, FitsRow}
+use Rattle.lane_outcomes.specs.Rows.{Setting}
 use Rattle.lane_outcomes.proofs.HoldLemmas.{held-nothing, held-set}
 use Rattle.lane_outcomes.proofs.KeptLemmas.{given-long}
 use Rattle.roomy_traces.specs.Roomy.{IsPlain}
 use Rattle.roomy_traces.proofs.LaneLemmas.{all-append}
-use Rattle.roomy_traces.proofs.PieceLemmas.{Counts, IsTame, all-writing, counts-append, given-by, given-counts, quiet-counts, quiet-writing, row-counts, row-tame, tame-made}
+use Rattle.roomy_traces.proofs.PieceLemmas.{IsPlainDeed, IsQuiet, all-looks, all-mild, plain-deed, quiet-refused, quiet-spent, spent-looks, tame-refused, Counts, IsTame, all-writing, counts-append, given-by, given-counts, quiet-counts, quiet-writing, tame-made}
 use Rattle.roomy_traces.proofs.through_lemmas.MagazineLemmas.{total, total-freed, total-given}
+use Rattle.lane_outcomes.proofs.SlotRows.{Adds, row-adds}
+use Rattle.lane_outcomes.specs.Deeds as deed
+use Rattle.lane_outcomes.specs.Deeds.{Deed, deed_of, freed_by, given_by, register_of, registers_by}
 
 -- the block in each register serves a need of the heap's
 abbrev pub AreNeeds : List (Option HeldBlock) → Type 0
@@ -53,14 +54,18 @@ needs-new words place need h is =
 needs-none : (h : HeldBlock) → None ≡ Some h → IsNeed h.need
 needs-none h is = absurd (let e : None ≡ Some h = is in cc)
 
+needs-by : (registers : List (Option HeldBlock)) (r : ℕ) (done : Deed) → IsPlainDeed done → AreNeeds registers → AreNeeds (registers_by registers r done)
+needs-by registers r (deed.gives need v words place) plain needs = needs-set registers r _ (needs-new words place need) needs
+needs-by registers r (deed.replaces need words place) plain needs = needs-set registers r _ (needs-new words place need) needs
+needs-by registers r deed.frees plain needs = needs-set registers r None needs-none needs
+needs-by registers r deed.lays plain needs = absurd plain
+needs-by registers r (deed.takes words place need) plain needs = absurd plain
+needs-by registers r done plain needs = needs
+
 pub needs-after :
     (registers : List (Option HeldBlock)) (operation : Op) (result : Outcome) → IsPlain operation → AreNeeds registers → AreNeeds (registers_after registers operation result)
-needs-after registers (op.Alloc r need v) (outcome.Given words place) plain needs = needs-set registers r _ (needs-new words place need) needs
-needs-after registers (op.Resize r need) (outcome.Resized words place) plain needs = needs-set registers r _ (needs-new words place need) needs
-needs-after registers (op.Free r) outcome.Freed plain needs = needs-set registers r None needs-none needs
-needs-after registers (op.Put r shelf) result plain needs = absurd plain
-needs-after registers (op.Take r shelf) result plain needs = absurd plain
-needs-after registers operation result plain needs = needs
+needs-after registers operation result plain needs =
+    needs-by registers (register_of operation) (deed_of operation result) (plain-deed operation result plain) needs
 
 pub needs-start : (n : ℕ) → AreNeeds (replicate n None)
 needs-start n r held full = needs-none held (sym (held-nothing n r) ∙ full)
@@ -92,92 +97,103 @@ freeing-few caller true place = omega arith
 freeing-few caller false place = omega arith
 
 -- what an operation gives and frees by its events, and what magazines serve and keep of it
-pub record CachedCounts (depth : ℕ) (position : CachedPosition) (operation : Op) (result : Outcome) (piece : List Event) : Type 0 where
+pub record CountsBy (depth : ℕ) (position : CachedPosition) (r : ℕ) (done : Deed) (piece : List Event) : Type 0 where
   pub given : ℕ
   pub freed : ℕ
   pub counts : Counts piece given freed
-  pub gives : given + hit_of (served_for position.magazines operation result) ≡ count_with as_one (words_given operation result)
-  pub few : freed ≤ count_with as_one (words_freed position.base.registers operation result)
+  pub gives : given + hit_of (served_with position.magazines done) ≡ count_with as_one (given_by done)
+  pub few : freed ≤ count_with as_one (freed_by (held_in position.base.registers r) done)
   pub balance :
-      freed + total (magazines_after depth position.magazines position.base.registers operation result)
-      + hit_of (served_for position.magazines operation result)
-      ≡ total position.magazines + count_with as_one (words_freed position.base.registers operation result)
+      freed + total (magazines_by depth position.magazines (held_in position.base.registers r) done) + hit_of (served_with position.magazines done)
+      ≡ total position.magazines + count_with as_one (freed_by (held_in position.base.registers r) done)
 
-bare-counts :
-    (setting : Setting) (depth : ℕ) (position : CachedPosition) (operation : Op) (result : Outcome) (piece : List Event) → IsPlain operation
-    → FitsRow setting position.base operation result piece → served_for position.magazines operation result ≡ None
-    → magazines_after depth position.magazines position.base.registers operation result ≡ position.magazines
-    → CachedCounts depth position operation result piece
-bare-counts setting depth position operation result piece plain row none same =
-    record {
-      given = count_with as_one (words_given operation result);
-      freed = count_with as_one (words_freed position.base.registers operation result);
-      counts = row-counts setting position.base operation result piece plain row;
-      gives = omega (arith, ap hit_of none);
-      few = omega arith;
-      balance = omega (arith, ap hit_of none, ap (λ (m : List (List ℕ)). total m) same);
-    }
+abbrev pub CachedCounts : ℕ → CachedPosition → Op → Outcome → List Event → Type 0
+CachedCounts depth position operation result piece = CountsBy depth position (register_of operation) (deed_of operation result) piece
+
+module _ (setting : Setting) (depth : ℕ) (position : CachedPosition) (piece : List Event) where
+  counts-by :
+      (r : ℕ) (done : Deed) → IsPlainDeed done → AreNeeds position.base.registers → length position.magazines ≡ CLASSES
+      → Adds setting depth position r done piece → CountsBy depth position r done piece
+  counts-by r (deed.gives need v words place) plain needs long (empty, words_are, calls, given, is) =
+      let handed = handed-counts setting position (served_by position.magazines (need_of need)) need words place (λ i. (v + i) % 2 ^ 64) calls given in
+      record {
+        given = handed.0;
+        freed = 0;
+        counts = subst (λ xs. Counts xs handed.0 0) (sym is) handed.1;
+        gives = handed.2;
+        few = omega arith;
+        balance = omega (arith, total-given position.magazines (need_of need));
+      }
+  counts-by r (deed.replaces need words place) plain needs long (held, full, differ, words_are, calls, given, value, copy, is) =
+      let caller = setting.caller in
+      let handed = handed-counts setting position (served_by position.magazines (need_of need)) need words place value calls given in
+      let magazines : List (List ℕ) = magazines_given position.magazines (need_of need) in
+      let keeps : Bool = is_kept depth magazines held.need in
+      let frees : ℕ = count_by is_free (freeing caller keeps held.place) in
+      record {
+        given = handed.0 + 0;
+        freed = 0 + frees;
+        counts =
+            subst (λ xs. Counts xs (handed.0 + 0) (0 + frees)) (sym is)
+            (counts-append (calls ++ writing caller place words value) (freeing caller keeps held.place) handed.0 0 0 frees handed.1
+            (freeing-counts caller keeps held.place));
+        gives = omega (arith, handed.2);
+        few = rw full (omega (arith, freeing-few caller keeps held.place));
+        balance =
+            rw full
+            (omega (
+              arith,
+              total-given position.magazines (need_of need),
+              total-freed caller depth magazines held.place held.need (needs r held full)
+                  (given-long (served_by position.magazines (need_of need)) position.magazines (need_of need) ∙ long),
+            ));
+      }
+  counts-by r deed.frees plain needs long (held, full, is) =
+      let caller = setting.caller in
+      let keeps : Bool = is_kept depth position.magazines held.need in
+      let frees : ℕ = count_by is_free (freeing caller keeps held.place) in
+      record {
+        given = 0;
+        freed = frees;
+        counts = subst (λ xs. Counts xs 0 frees) (sym is) (freeing-counts caller keeps held.place);
+        gives = omega arith;
+        few = rw full (freeing-few caller keeps held.place);
+        balance = rw full (omega (arith, total-freed caller depth position.magazines held.place held.need (needs r held full) long));
+      }
+  counts-by r deed.lays plain needs long row = absurd plain
+  counts-by r (deed.takes words place need) plain needs long row = absurd plain
+  counts-by r (deed.refuses need) plain needs long events = record {
+    given = 0;
+    freed = 0;
+    counts = quiet-counts piece (quiet-refused setting.caller need piece events);
+    gives = refl;
+    few = omega arith;
+    balance = omega arith;
+  }
+  counts-by r (deed.spends need) plain needs long spent = record {
+    given = 0;
+    freed = 0;
+    counts = quiet-counts piece (quiet-spent setting position.base need piece spent);
+    gives = refl;
+    few = omega arith;
+    balance = omega arith;
+  }
+  counts-by r deed.stays plain needs long milds = record {
+    given = 0;
+    freed = 0;
+    counts = quiet-counts piece (all-mild IsQuiet setting.caller piece (λ by place i n. (refl, refl)) (λ by shelf. (refl, refl)) milds);
+    gives = refl;
+    few = omega arith;
+    balance = omega arith;
+  }
 
 pub cached-counts :
     (setting : Setting) (depth : ℕ) (position : CachedPosition) (operation : Op) (result : Outcome) (piece : List Event) → IsPlain operation
     → AreNeeds position.base.registers → length position.magazines ≡ CLASSES → CachedRow setting depth position operation result piece
     → CachedCounts depth position operation result piece
-cached-counts setting depth position (op.Alloc r need v) (outcome.Given words place) piece plain needs long (empty, words_are, calls, given, is) =
-    let handed = handed-counts setting position (served_by position.magazines (need_of need)) need words place (λ i. (v + i) % 2 ^ 64) calls given in
-    record {
-      given = handed.0;
-      freed = 0;
-      counts = subst (λ xs. Counts xs handed.0 0) (sym is) handed.1;
-      gives = handed.2;
-      few = omega arith;
-      balance = omega (arith, total-given position.magazines (need_of need));
-    }
-cached-counts setting depth position (op.Resize r need) (outcome.Resized words place) piece plain needs long (held, full, differ, words_are, calls, given, value, copy, is) =
-    let caller = setting.caller in
-    let handed = handed-counts setting position (served_by position.magazines (need_of need)) need words place value calls given in
-    let magazines : List (List ℕ) = magazines_given position.magazines (need_of need) in
-    let keeps : Bool = is_kept depth magazines held.need in
-    let frees : ℕ = count_by is_free (freeing caller keeps held.place) in
-    record {
-      given = handed.0 + 0;
-      freed = 0 + frees;
-      counts =
-          subst (λ xs. Counts xs (handed.0 + 0) (0 + frees)) (sym is)
-          (counts-append (calls ++ writing caller place words value) (freeing caller keeps held.place) handed.0 0 0 frees handed.1
-          (freeing-counts caller keeps held.place));
-      gives = omega (arith, handed.2);
-      few = rw full (omega (arith, freeing-few caller keeps held.place));
-      balance =
-          rw full
-          (omega (
-            arith,
-            total-given position.magazines (need_of need),
-            total-freed caller depth magazines held.place held.need (needs r held full)
-                (given-long (served_by position.magazines (need_of need)) position.magazines (need_of need) ∙ long),
-          ));
-    }
-cached-counts setting depth position (op.Free r) outcome.Freed piece plain needs long (held, full, is) =
-    let caller = setting.caller in
-    let keeps : Bool = is_kept depth position.magazines held.need in
-    let frees : ℕ = count_by is_free (freeing caller keeps held.place) in
-    record {
-      given = 0;
-      freed = frees;
-      counts = subst (λ xs. Counts xs 0 frees) (sym is) (freeing-counts caller keeps held.place);
-      gives = omega arith;
-      few = rw full (freeing-few caller keeps held.place);
-      balance = rw full (omega (arith, total-freed caller depth position.magazines held.place held.need (needs r held full) long));
-    }
-cached-counts setting depth position (op.Alloc r need v) outcome.Refused piece plain needs long row =
-    bare-counts setting depth position (op.Alloc r need v) outcome.Refused piece plain row.1 refl refl
-cached-counts setting depth position (op.Alloc r need v) outcome.Spent piece plain needs long row =
-    bare-counts setting depth position (op.Alloc r need v) outcome.Spent piece plain row.1 refl refl
-cached-counts setting depth position (op.Resize r need) outcome.Refused piece plain needs long row =
-    bare-counts setting depth position (op.Resize r need) outcome.Refused piece plain row.1 refl refl
-cached-counts setting depth position (op.Resize r need) outcome.Spent piece plain needs long row =
-    bare-counts setting depth position (op.Resize r need) outcome.Spent piece plain row.1 refl refl
 cached-counts setting depth position operation result piece plain needs long row =
-    bare-counts setting depth position operation result piece plain row refl refl
+    counts-by setting depth position piece (register_of operation) (deed_of operation result) (plain-deed operation result plain) needs long
+    (row-adds setting depth position operation result piece row)
 
 -- the frees that empty magazines give no block
 pub frees-all : (P : Event → Type 0) (caller : ℕ) (places : List ℕ) → ((place : ℕ) → P (Free caller place)) → AllByRecursion P (map (λ place. Free caller place) places)
@@ -206,23 +222,31 @@ freeing-tame : (caller : ℕ) (keeps : Bool) (place : ℕ) → AllByRecursion Is
 freeing-tame caller true place = tt
 freeing-tame caller false place = (tt, tt)
 
-pub cached-tame :
-    (setting : Setting) (depth : ℕ) (position : CachedPosition) (operation : Op) (result : Outcome) (piece : List Event) → IsPlain operation
-    → CachedRow setting depth position operation result piece → AllByRecursion IsTame piece
-cached-tame setting depth position (op.Alloc r need v) (outcome.Given words place) piece plain (empty, words_are, calls, given, is) =
+tame-by :
+    (setting : Setting) (depth : ℕ) (position : CachedPosition) (r : ℕ) (done : Deed) (piece : List Event) → IsPlainDeed done
+    → Adds setting depth position r done piece → AllByRecursion IsTame piece
+tame-by setting depth position r (deed.gives need v words place) piece plain (empty, words_are, calls, given, is) =
     subst (AllByRecursion IsTame) (sym is)
     (handed-tame setting position (served_by position.magazines (need_of need)) need words place (λ i. (v + i) % 2 ^ 64) calls given)
-cached-tame setting depth position (op.Resize r need) (outcome.Resized words place) piece plain (held, full, differ, words_are, calls, given, value, copy, is) =
+tame-by setting depth position r (deed.replaces need words place) piece plain (held, full, differ, words_are, calls, given, value, copy, is) =
     let keeps : Bool = is_kept depth (magazines_given position.magazines (need_of need)) held.need in
     subst (AllByRecursion IsTame) (sym is)
     (all-append IsTame (calls ++ writing setting.caller place words value) (freeing setting.caller keeps held.place)
     (handed-tame setting position (served_by position.magazines (need_of need)) need words place value calls given)
     (freeing-tame setting.caller keeps held.place))
-cached-tame setting depth position (op.Free r) outcome.Freed piece plain (held, full, is) =
+tame-by setting depth position r deed.frees piece plain (held, full, is) =
     subst (AllByRecursion IsTame) (sym is) (freeing-tame setting.caller (is_kept depth position.magazines held.need) held.place)
-cached-tame setting depth position (op.Alloc r need v) outcome.Refused piece plain row = row-tame setting position.base (op.Alloc r need v) outcome.Refused piece plain row.1
-cached-tame setting depth position (op.Alloc r need v) outcome.Spent piece plain row = row-tame setting position.base (op.Alloc r need v) outcome.Spent piece plain row.1
-cached-tame setting depth position (op.Resize r need) outcome.Refused piece plain row =
-    row-tame setting position.base (op.Resize r need) outcome.Refused piece plain row.1
-cached-tame setting depth position (op.Resize r need) outcome.Spent piece plain row = row-tame setting position.base (op.Resize r need) outcome.Spent piece plain row.1
-cached-tame setting depth position operation result piece plain row = row-tame setting position.base operation result piece plain row
+tame-by setting depth position r deed.lays piece plain row = absurd plain
+tame-by setting depth position r (deed.takes words place need) piece plain row = absurd plain
+tame-by setting depth position r (deed.refuses need) piece plain events = tame-refused setting.caller need piece plain events
+tame-by setting depth position r (deed.spends need) piece plain spent =
+    all-looks IsTame setting.caller piece (λ class. tt) (spent-looks setting position.base need piece position.base.spent spent)
+tame-by setting depth position r deed.stays piece plain milds =
+    all-mild IsTame setting.caller piece (λ by place i n. tt) (λ by shelf. tt) milds
+
+pub cached-tame :
+    (setting : Setting) (depth : ℕ) (position : CachedPosition) (operation : Op) (result : Outcome) (piece : List Event) → IsPlain operation
+    → CachedRow setting depth position operation result piece → AllByRecursion IsTame piece
+cached-tame setting depth position operation result piece plain row =
+    tame-by setting depth position (register_of operation) (deed_of operation result) piece (plain-deed operation result plain)
+    (row-adds setting depth position operation result piece row)

@@ -1,8 +1,7 @@
--- The blocks that a lane holds contain what it filled them with, and those that its magazines keep have all words written, from operation to operation.
+-- The blocks that a lane through a cache holds contain what it filled them with, from operation to operation.
 use Rattle.std.proofs.Common.{ℕ, suc, ◌≡◌, ◌≢◌, ◌+◌, ◌<◌, ◌%◌, ◌^◌, List, [], ◌∷◌, ◌++◌, Bool, true, false, Option, Some, None, length, map, set, refl, sym, ◌∙◌, ap, subst, arith, append-nil, append_assoc, get_or-set_same, get_or-set_other, length-set}
 use Rattle.std.specs.Prelude.{slice_index_or}
 use Rattle.std.specs.List.{AllByRecursion, range_with_len}
-use Rattle.std.proofs.lemmas.List.{length-map, set-set}
 use Rattle.heap_geometry.specs.declared.geometry.Geometry.{Geometry}
 use Rattle.heap_geometry.specs.declared.limits.TheConstants.{CLASSES}
 use Rattle.heap_geometry.specs.Need.{need_of, usable_words}
@@ -16,23 +15,21 @@ use Rattle.lane_outcomes.specs.declared.registers.HeldBlock.{HeldBlock}
 use Rattle.lane_outcomes.specs.declared.outcome.Outcome.{Outcome}
 use Rattle.lane_outcomes.specs.declared.outcome.Outcome.TheVariants as outcome
 use Rattle.lane_outcomes.specs.Cached.{CachedPosition, CachedRow, IsGiven, cached_after}
-use Rattle.lane_outcomes.specs.Lane.{Position, held_in, filling, registers_after, writing}
+use Rattle.lane_outcomes.specs.Lane.{held_in, filling, registers_after, writing}
 use Rattle.lane_outcomes.specs.LaneCounts.{as_one}
 use Rattle.lane_outcomes.specs.Magazines.{freeing, is_kept, kept_from, kept_with, magazines_freed, magazines_given, served_by}
-use Rattle.lane_outcomes.specs.Rows.{Setting, AllocRow, CheckRow, FillRow, FitsRow, FreeRow, IsCopy, ResizeRow}
+use Rattle.lane_outcomes.specs.Rows.{Setting, FitsRow, IsCopy}
 use Rattle.lane_outcomes.proofs.CachedLemmas.{Stands}
 use Rattle.lane_outcomes.proofs.HoldLemmas.{HoldsOnce, held-inside}
 use Rattle.lane_outcomes.proofs.KeepingLemmas.{keeps-handed, keeps-lifted}
-use Rattle.lane_outcomes.proofs.KeptLemmas.{given-long}
-use Rattle.lane_outcomes.proofs.SlotLemmas.{slot-held, slots}
+use Rattle.lane_outcomes.proofs.SlotLemmas.{slots}
 use Rattle.roomy_traces.specs.Roomy.{Filled, IsPlain, copied, filled_in, moved_to, numbers_from, serial_after, serial_step}
 use Rattle.roomy_traces.proofs.LaneLemmas.{HasMoment, all-append}
-use Rattle.roomy_traces.proofs.PieceLemmas.{all-filling}
-use Rattle.roomy_traces.proofs.RegisterLemmas.{IsAlike, IsAnswered, alike-at, from-length, mismatch, mismatch_too, moves-not, moves-on, need-at, step-check, need_filled, need_held, words_filled, words_held}
-use Rattle.roomy_traces.proofs.ContentLemmas.{AtMoments, HasContents, IsAway, at-filling, at-freed, known-contents, known-copy, with_numbers}
+use Rattle.roomy_traces.proofs.RegisterLemmas.{IsStill, row-serial, IsAlike, IsAnswered, alike-at, mismatch, mismatch_too, moves-on, need-at, need_filled, need_held, words_filled, words_held}
+use Rattle.roomy_traces.proofs.ContentLemmas.{AtMoments, HasContents, IsAway, at-freed, known-contents, known-copy, with_numbers}
 use Rattle.roomy_traces.proofs.FilledLemmas.{AreFilled, fill-filled, filled-none, same-many, set-filled, unset-filled}
-use Rattle.roomy_traces.proofs.through_lemmas.HandedLemmas.{handed-away, handed-full, handed-placed}
-use Rattle.roomy_traces.proofs.through_lemmas.SlotLemmas.{AreFull, IsFull, full-lifted, full-none, full-over, full-settled, once-kept, once-registers, set-here}
+use Rattle.roomy_traces.proofs.through_lemmas.HandedLemmas.{handed-away, handed-placed}
+use Rattle.roomy_traces.proofs.through_lemmas.SlotLemmas.{once-kept, once-registers, set-here}
 
 -- the events of a free are of the freed block alone
 freeing-away : (caller : ℕ) (keeps : Bool) (place other : ℕ) → other ≢ place → AllByRecursion (IsAway other) (freeing caller keeps place)
@@ -48,94 +45,11 @@ freeing-placed g history caller done true place gone contents legal apart at =
 freeing-placed g history caller done false place gone contents legal apart at =
     at-freed g history caller place gone done contents legal (λ before begins own_is. apart) at
 
--- an operation that is not filling, is given no block and frees none
-abbrev IsStill : Op → Outcome → Type 0
-IsStill (op.Alloc r need v) (outcome.Given words place) = ⊥
-IsStill (op.Free r) outcome.Freed = ⊥
-IsStill (op.Fill r v) outcome.Filled = ⊥
-IsStill (op.Resize r need) (outcome.Resized words place) = ⊥
-IsStill operation result = Unit {0}
-
--- it makes no event, and leaves the registers of the lane computed on its own
-record IsQuiet (filled : List (Option Filled)) (now : Option Filled) (operation : Op) (piece : List Event) : Type 0 where
-  pub none : piece ≡ []
-  pub same : serial_step filled now operation ≡ filled
-
-module _ (setting : Setting) (position : Position) (filled : List (Option Filled)) (piece : List Event) where
-  still-alloc :
-      (r need v : ℕ) (held : Option HeldBlock) (result : Outcome) (now : Option Filled) → words_held held ≡ words_filled now → IsStill (op.Alloc r need v) result
-      → IsAnswered result → AllocRow setting position need v held result piece → IsQuiet filled now (op.Alloc r need v) piece
-  still-alloc r need v (Some held) outcome.Skipped (Some now) same still answered row = record { none = row; same = refl }
-  still-alloc r need v (Some held) outcome.Skipped None same still answered row = mismatch held _ same
-  still-alloc r need v None (outcome.Given words place) now same still answered row = absurd still
-  still-alloc r need v None outcome.Refused now same still answered row = absurd answered
-  still-alloc r need v None outcome.Spent now same still answered row = absurd answered
-  still-alloc r need v held result now same still answered row = absurd row
-
-  still-free :
-      (r : ℕ) (held : Option HeldBlock) (result : Outcome) (now : Option Filled) → words_held held ≡ words_filled now → IsStill (op.Free r) result
-      → FreeRow setting held result piece → IsQuiet filled now (op.Free r) piece
-  still-free r None outcome.Skipped None same still row = record { none = row; same = refl }
-  still-free r None outcome.Skipped (Some now) same still row = mismatch_too now _ same
-  still-free r (Some held) outcome.Freed now same still row = absurd still
-  still-free r held result now same still row = absurd row
-
-  still-fill :
-      (r v : ℕ) (held : Option HeldBlock) (result : Outcome) (now : Option Filled) → words_held held ≡ words_filled now → IsStill (op.Fill r v) result
-      → FillRow setting v held result piece → IsQuiet filled now (op.Fill r v) piece
-  still-fill r v None outcome.Skipped None same still row = record { none = row; same = refl }
-  still-fill r v None outcome.Skipped (Some now) same still row = mismatch_too now _ same
-  still-fill r v (Some held) outcome.Filled now same still row = absurd still
-  still-fill r v held result now same still row = absurd row
-
-  still-check :
-      (r : ℕ) (held : Option HeldBlock) (result : Outcome) (now : Option Filled) → CheckRow setting position held result piece
-      → IsQuiet filled now (op.Check r) piece
-  still-check r None outcome.Skipped now row = record { none = row; same = sym (step-check filled now r) }
-  still-check r (Some held) (outcome.Sum total) now row = record { none = row.0; same = sym (step-check filled now r) }
-  still-check r held result now row = absurd row
-
-  still-resize :
-      (r need : ℕ) (held : Option HeldBlock) (result : Outcome) (now : Option Filled) → words_held held ≡ words_filled now → need_held held ≡ need_filled now
-      → IsStill (op.Resize r need) result → IsAnswered result → ResizeRow setting position need held result piece
-      → IsQuiet filled now (op.Resize r need) piece
-  still-resize r need None outcome.Skipped None same same_need still answered row = record { none = row; same = refl }
-  still-resize r need None outcome.Skipped (Some now) same same_need still answered row = mismatch_too now _ same
-  still-resize r need (Some held) (outcome.Kept words place) (Some now) same same_need still answered row =
-      record { none = row.0; same = rw (moves-not need held now same_need row.1) refl }
-  still-resize r need (Some held) (outcome.Kept words place) None same same_need still answered row = mismatch held _ same
-  still-resize r need (Some held) (outcome.Resized words place) now same same_need still answered row = absurd still
-  still-resize r need (Some held) outcome.Refused now same same_need still answered row = absurd answered
-  still-resize r need (Some held) outcome.Spent now same same_need still answered row = absurd answered
-  still-resize r need held result now same same_need still answered row = absurd row
-
-  still-row :
-      (operation : Op) (result : Outcome) → IsPlain operation → IsAlike position.registers filled → IsStill operation result → IsAnswered result
-      → FitsRow setting position operation result piece → IsQuiet filled (filled_in filled operation) operation piece
-  still-row (op.Alloc r need v) result plain alike still answered row =
-      still-alloc r need v (held_in position.registers r) result (filled_in filled (op.Alloc r need v)) (alike-at position.registers filled r alike) still answered row
-  still-row (op.Free r) result plain alike still answered row =
-      still-free r (held_in position.registers r) result (filled_in filled (op.Free r)) (alike-at position.registers filled r alike) still row
-  still-row (op.Fill r v) result plain alike still answered row =
-      still-fill r v (held_in position.registers r) result (filled_in filled (op.Fill r v)) (alike-at position.registers filled r alike) still row
-  still-row (op.Check r) result plain alike still answered row =
-      still-check r (held_in position.registers r) result (filled_in filled (op.Check r)) row
-  still-row (op.Resize r need) result plain alike still answered row =
-      still-resize r need (held_in position.registers r) result (filled_in filled (op.Resize r need)) (alike-at position.registers filled r alike)
-      (need-at position.registers filled r alike) still answered row
-  still-row (op.Put r shelf) result plain alike still answered row = absurd plain
-  still-row (op.Take r shelf) result plain alike still answered row = absurd plain
-
--- what a lane's blocks contain, in its magazines and in its registers
-pub record Contains (g : Geometry) (setting : Setting) (legal : IsLegalWithoutCounts g setting.history) (done : List Event) (magazines : List (List ℕ)) (registers : List (Option HeldBlock)) (filled : List (Option Filled)) : Type 0 where
-  pub full : AreFull g setting.history setting.caller legal done (slots (kept_from 0 magazines) registers)
-  pub are_filled : AreFilled setting.history setting.caller done registers filled
-
 -- on a lane between two operations
 module _ (g : Geometry) (setting : Setting) (legal : IsLegalWithoutCounts g setting.history) (depth : ℕ) (position : CachedPosition)
     (filled : List (Option Filled)) (got gone : ℕ) (alike : IsAlike position.base.registers filled) (long : length position.magazines ≡ CLASSES)
     (keeps : Stands as_one setting position got gone) (before : HasMoment setting.caller setting.history position.base.done)
-    (has : Contains g setting legal position.base.done position.magazines position.base.registers filled) where
+    (has : AreFilled setting.history setting.caller position.base.done position.base.registers filled) where
   once-before : HoldsOnce (slots (kept_from 0 position.magazines) position.base.registers)
   once-before =
       once-kept setting.history setting.caller position.base.done (kept_from 0 position.magazines) position.base.registers got gone keeps before
@@ -146,7 +60,7 @@ module _ (g : Geometry) (setting : Setting) (legal : IsLegalWithoutCounts g sett
       → piece ≡ calls ++ filling setting.caller place words v
       → HoldsOnce (slots (kept_from 0 (magazines_given position.magazines (need_of need)))
       (set position.base.registers r (Some (record { place = place; words = words; need = need_of need }))))
-      → Contains g setting legal (position.base.done ++ piece) (magazines_given position.magazines (need_of need))
+      → AreFilled setting.history setting.caller (position.base.done ++ piece)
       (set position.base.registers r (Some (record { place = place; words = words; need = need_of need }))) (serial_step filled now (op.Alloc r need v))
   given-contains r need v words place calls piece (Some now) same within words_are given is after = mismatch_too now _ same
   given-contains r need v words place calls piece None same within words_are given is after =
@@ -160,27 +74,21 @@ module _ (g : Geometry) (setting : Setting) (legal : IsLegalWithoutCounts g sett
       let by : Option ℕ = served_by position.magazines (need_of need) in
       let left : List HeldBlock = kept_from 0 (magazines_given position.magazines (need_of need)) in
       let placed : AtMoments history caller (done ++ (calls ++ writing caller place words value)) (HasContents caller place (with_numbers (numbers_from v words))) =
-      handed-placed g setting legal position done need words place value calls words_are by registers refl given has.full in
+      handed-placed g setting legal position done need words place value calls words_are by registers got gone refl given keeps before in
       let worded : AtMoments history caller (done ++ piece) (HasContents caller place (with_numbers (numbers_from v (usable_words (need_of need))))) =
       rw (is, ← words_are) placed in
       let once : HoldsOnce (set registers r (Some new)) = once-registers left (set registers r (Some new)) after in
-      record {
-        full =
-            subst (λ (xs : List Event). AreFull g history caller legal (done ++ xs) (slots left (set registers r (Some new)))) (sym is)
-            (handed-full g setting legal position done need words place value calls words_are by r [] registers within refl given placed after has.full);
-        are_filled =
-            set-filled g history caller done piece registers filled r new fresh legal within (same-many registers filled alike) worded
-            (λ q held other full.
-            subst (AllByRecursion (IsAway held.place)) (sym is)
-            (handed-away setting position by need words place value calls given held.place
-            (once q r held new (get_or-set_other registers r q (Some new) None other ∙ full) (get_or-set_same registers r (Some new) None within) other)))
-            has.are_filled;
-      }
+      set-filled g history caller done piece registers filled r new fresh legal within (same-many registers filled alike) worded
+      (λ q held other full.
+      subst (AllByRecursion (IsAway held.place)) (sym is)
+      (handed-away setting position by need words place value calls given held.place
+      (once q r held new (get_or-set_other registers r q (Some new) None other ∙ full) (get_or-set_same registers r (Some new) None within) other)))
+      has
 
   freed-contains :
       (r : ℕ) (held : HeldBlock) (piece : List Event) (now : Option Filled) → held_in position.base.registers r ≡ Some held
       → words_held (Some held) ≡ words_filled now → piece ≡ freeing setting.caller (is_kept depth position.magazines held.need) held.place
-      → Contains g setting legal (position.base.done ++ piece) (magazines_freed depth position.magazines (Some held)) (set position.base.registers r None)
+      → AreFilled setting.history setting.caller (position.base.done ++ piece) (set position.base.registers r None)
       (serial_step filled now (op.Free r))
   freed-contains r held piece None full same is = mismatch held _ same
   freed-contains r held piece (Some now) full same is =
@@ -191,20 +99,11 @@ module _ (g : Geometry) (setting : Setting) (legal : IsLegalWithoutCounts g sett
       let kept : List HeldBlock = kept_from 0 position.magazines in
       let stacks : Bool = is_kept depth position.magazines held.need in
       let emptied : List (Option HeldBlock) = set registers r None in
-      let lifted = keeps-lifted as_one history caller done r held kept registers got gone full keeps in
       let once : HoldsOnce registers = once-registers kept registers once-before in
-      record {
-        full =
-            subst (λ (xs : List Event). AreFull g history caller legal (done ++ xs)
-            (slots (kept_from 0 (kept_with stacks position.magazines held.place held.need)) emptied)) (sym is)
-            (full-settled g history caller legal done depth position.magazines held emptied _ _ stacks long refl lifted before
-            (full-lifted g history caller legal done r held kept registers full has.full));
-        are_filled =
-            unset-filled g history caller done piece registers filled r legal (held-inside registers r held full)
-            (λ q other differ full_q.
-            subst (AllByRecursion (IsAway other.place)) (sym is) (freeing-away caller stacks held.place other.place (once q r other held full_q full differ)))
-            has.are_filled;
-      }
+      unset-filled g history caller done piece registers filled r legal (held-inside registers r held full)
+      (λ q other differ full_q.
+      subst (AllByRecursion (IsAway other.place)) (sym is) (freeing-away caller stacks held.place other.place (once q r other held full_q full differ)))
+      has
 
   resized-contains :
       (r need words place : ℕ) (held : HeldBlock) (value : ℕ → ℕ) (calls piece : List Event) (now : Option Filled)
@@ -217,7 +116,7 @@ module _ (g : Geometry) (setting : Setting) (legal : IsLegalWithoutCounts g sett
       → HasMoment setting.caller setting.history (position.base.done ++ (calls ++ writing setting.caller place words value))
       → HoldsOnce (slots (kept_from 0 (magazines_freed depth (magazines_given position.magazines (need_of need)) (Some held)))
       (set position.base.registers r (Some (record { place = place; words = words; need = need_of need }))))
-      → Contains g setting legal (position.base.done ++ piece) (magazines_freed depth (magazines_given position.magazines (need_of need)) (Some held))
+      → AreFilled setting.history setting.caller (position.base.done ++ piece)
       (set position.base.registers r (Some (record { place = place; words = words; need = need_of need }))) (serial_step filled now (op.Resize r need))
   resized-contains r need words place held value calls piece None there full same same_need differ words_are given copy is middle after = mismatch held _ same
   resized-contains r need words place held value calls piece (Some now) there full same same_need differ words_are given copy is middle after =
@@ -241,78 +140,40 @@ module _ (g : Geometry) (setting : Setting) (legal : IsLegalWithoutCounts g sett
       let keeps_middle = keeps-handed as_one g setting position done r need words place value calls made (held ∷ []) emptied _ _ by legal words_are refl given refl
       (keeps-lifted as_one history caller done r held kept registers got gone full keeps) in
       let once_middle : HoldsOnce (slots left (set emptied r (Some new))) = once-kept history caller (done ++ made) left (set emptied r (Some new)) _ _ keeps_middle middle in
-      let placed = handed-placed g setting legal position done need words place value calls words_are by registers refl given has.full in
-      let full_middle : AreFull g history caller legal (done ++ made) (slots left (set emptied r (Some new))) =
-      handed-full g setting legal position done need words place value calls words_are by r (held ∷ []) emptied within_emptied refl given placed once_middle
-      (full-lifted g history caller legal done r held kept registers full has.full) in
-      let settled : AreFull g history caller legal ((done ++ made) ++ freeing caller stacks held.place) (slots last (set emptied r (Some new))) =
-      full-settled g history caller legal (done ++ made) depth magazines held (set emptied r (Some new)) _ _ stacks (given-long by position.magazines (need_of need) ∙ long)
-      refl keeps_middle middle full_middle in
+      let placed = handed-placed g setting legal position done need words place value calls words_are by registers got gone refl given keeps before in
       let numbers : map value (range_with_len 0 words) ≡ (moved_to need now).numbers =
       known-copy now.numbers copy.block.contents words value
       (known-contents (pool_of copy.moment.before) caller held.place now.numbers copy.block
-      (has.are_filled r held now full there copy.moment.before copy.moment.begins copy.moment.own_done) copy.live)
+      (has r held now full there copy.moment.before copy.moment.begins copy.moment.own_done) copy.live)
       copy.each
       ∙ ap (copied now.numbers) words_are in
       let more : length left ≡ suc (length (kept_from 0 magazines)) = refl in
       let apart : place ≢ held.place =
-      once_middle (length left + r) 0 new held (set-here g history caller legal left emptied r (Some new) within_emptied) refl
+      once_middle (length left + r) 0 new held (set-here left emptied r (Some new) within_emptied) refl
       (λ e. absurd (omega (arith, e, more))) in
       let once : HoldsOnce registers = once-registers kept registers once-before in
       let once_after : HoldsOnce (set registers r (Some new)) = once-registers last (set registers r (Some new)) after in
       rw (moves-on need held now same_need differ)
-      (record {
-        full =
-            subst (λ (xs : List Event). AreFull g history caller legal xs (slots last (set registers r (Some new)))) whole
-            (subst (λ (rs : List (Option HeldBlock)). AreFull g history caller legal ((done ++ made) ++ freeing caller stacks held.place) (slots last rs))
-            (set-set registers r None (Some new)) settled);
-        are_filled =
-            set-filled g history caller done piece registers filled r new (moved_to need now) legal within (same-many registers filled alike)
-            (subst (λ (ns : List ℕ). AtMoments history caller (done ++ piece) (HasContents caller place (with_numbers ns))) numbers
-            (subst (λ (xs : List Event). AtMoments history caller xs (HasContents caller place (with_numbers (map value (range_with_len 0 words))))) whole
-            (freeing-placed g history caller (done ++ made) stacks place held.place _ legal apart placed)))
-            (λ q other apart_q full_q.
-            subst (AllByRecursion (IsAway other.place)) (sym is)
-            (all-append (IsAway other.place) made (freeing caller stacks held.place)
-            (handed-away setting position by need words place value calls given other.place
-            (once_after q r other new (get_or-set_other registers r q (Some new) None apart_q ∙ full_q) (get_or-set_same registers r (Some new) None within) apart_q))
-            (freeing-away caller stacks held.place other.place (once q r other held full_q full apart_q))))
-            has.are_filled;
-      })
-
-  -- a filling writes a register's block alone
-  filled-full :
-      (r v : ℕ) (held : Option HeldBlock) (piece : List Event) → held_in position.base.registers r ≡ held → FillRow setting v held outcome.Filled piece
-      → AreFull g setting.history setting.caller legal (position.base.done ++ piece) (slots (kept_from 0 position.magazines) position.base.registers)
-  filled-full r v None piece full row = absurd row
-  filled-full r v (Some held) piece full row =
-      let caller = setting.caller in
-      let done : List Event = position.base.done in
-      let kept : List HeldBlock = kept_from 0 position.magazines in
-      let now : List (Option HeldBlock) = slots kept position.base.registers in
-      let here : held_in now (length kept + r) ≡ Some held = slot-held kept position.base.registers r ∙ full in
-      let was : IsFull setting.history caller done held = has.full (length kept + r) held here in
-      let placed : AtMoments setting.history caller (done ++ piece) (HasContents caller held.place (with_numbers (numbers_from v held.words))) =
-      subst (λ (xs : List Event). AtMoments setting.history caller (done ++ xs) (HasContents caller held.place (with_numbers (numbers_from v held.words)))) (sym row)
-      (at-filling g setting.history caller held.place held.words v done (with_numbers was.0) legal (length-map was.0 (λ n. Some n) ∙ was.1) was.2) in
-      full-over g setting.history caller legal done piece now now (length kept + r) held (numbers_from v held.words) (from-length v held.words) placed here
-      (λ q other apart at. at) once-before
-      (λ other away. subst (AllByRecursion (IsAway other)) (sym row) (all-filling (IsAway other) caller held.place held.words v (λ i n. away))) has.full
+      (set-filled g history caller done piece registers filled r new (moved_to need now) legal within (same-many registers filled alike)
+      (subst (λ (ns : List ℕ). AtMoments history caller (done ++ piece) (HasContents caller place (with_numbers ns))) numbers
+      (subst (λ (xs : List Event). AtMoments history caller xs (HasContents caller place (with_numbers (map value (range_with_len 0 words))))) whole
+      (freeing-placed g history caller (done ++ made) stacks place held.place _ legal apart placed)))
+      (λ q other apart_q full_q.
+      subst (AllByRecursion (IsAway other.place)) (sym is)
+      (all-append (IsAway other.place) made (freeing caller stacks held.place)
+      (handed-away setting position by need words place value calls given other.place
+      (once_after q r other new (get_or-set_other registers r q (Some new) None apart_q ∙ full_q) (get_or-set_same registers r (Some new) None within) apart_q))
+      (freeing-away caller stacks held.place other.place (once q r other held full_q full apart_q))))
+      has)
 
   still-contains :
       (operation : Op) (result : Outcome) (piece : List Event) → IsPlain operation → IsAnswered result → IsStill operation result
       → FitsRow setting position.base operation result piece
-      → Contains g setting legal (position.base.done ++ piece) position.magazines position.base.registers (serial_after filled operation)
+      → AreFilled setting.history setting.caller (position.base.done ++ piece) position.base.registers (serial_after filled operation)
   still-contains operation result piece plain answered still row =
-      let quiet = still-row setting position.base filled piece operation result plain alike still answered row in
-      record {
-        full =
-            full-none g setting.history setting.caller legal position.base.done piece (slots (kept_from 0 position.magazines) position.base.registers) quiet.none
-            has.full;
-        are_filled =
-            subst (λ (now : List (Option Filled)). AreFilled setting.history setting.caller (position.base.done ++ piece) position.base.registers now) (sym quiet.same)
-            (filled-none setting.history setting.caller position.base.done piece position.base.registers filled quiet.none has.are_filled);
-      }
+      let quiet = (row-serial setting position.base filled operation result piece plain alike answered row).quiet still in
+      subst (λ (now : List (Option Filled)). AreFilled setting.history setting.caller (position.base.done ++ piece) position.base.registers now) (sym quiet.1)
+      (filled-none setting.history setting.caller position.base.done piece position.base.registers filled quiet.0 has)
 
   -- the moments in the middle of a resize are those of its caller's events up to the free of the old block
   abbrev pub AreMoments : List Event → Type 0
@@ -322,7 +183,7 @@ module _ (g : Geometry) (setting : Setting) (legal : IsLegalWithoutCounts g sett
       (operation : Op) (result : Outcome) (piece : List Event) → IsPlain operation → IsOp operation → IsAnswered result
       → CachedRow setting depth position operation result piece → AreMoments piece
       → HoldsOnce (slots (kept_from 0 (cached_after depth position operation result piece).magazines) (registers_after position.base.registers operation result))
-      → Contains g setting legal (position.base.done ++ piece) (cached_after depth position operation result piece).magazines
+      → AreFilled setting.history setting.caller (position.base.done ++ piece)
       (registers_after position.base.registers operation result) (serial_after filled operation)
   row-contains (op.Alloc r need v) (outcome.Given words place) piece plain ranges answered (empty, words_are, calls, given, is) moments after =
       given-contains r need v words place calls piece (filled_in filled (op.Alloc r need v))
@@ -334,23 +195,15 @@ module _ (g : Geometry) (setting : Setting) (legal : IsLegalWithoutCounts g sett
       let magazines : List (List ℕ) = magazines_given position.magazines (need_of need) in
       let once : HoldsOnce (slots (kept_from 0 (magazines_freed depth magazines (Some held))) (set position.base.registers r new)) =
       subst (λ slot. HoldsOnce (slots (kept_from 0 (magazines_freed depth magazines slot)) (set position.base.registers r new))) full after in
-      subst (λ slot. Contains g setting legal (position.base.done ++ piece) (magazines_freed depth magazines slot) (set position.base.registers r new)
-      (serial_after filled (op.Resize r need))) (sym full)
-      (resized-contains r need words place held value calls piece (filled_in filled (op.Resize r need)) refl full
+      resized-contains r need words place held value calls piece (filled_in filled (op.Resize r need)) refl full
       (ap words_held (sym full) ∙ alike-at position.base.registers filled r alike) (ap need_held (sym full) ∙ need-at position.base.registers filled r alike)
-      differ words_are given copy is (moments made free is) once)
+      differ words_are given copy is (moments made free is) once
   row-contains (op.Free r) outcome.Freed piece plain ranges answered (held, full, is) moments after =
-      subst (λ slot. Contains g setting legal (position.base.done ++ piece) (magazines_freed depth position.magazines slot) (set position.base.registers r None)
-      (serial_after filled (op.Free r))) (sym full)
-      (freed-contains r held piece (filled_in filled (op.Free r)) full (ap words_held (sym full) ∙ alike-at position.base.registers filled r alike) is)
+      freed-contains r held piece (filled_in filled (op.Free r)) full (ap words_held (sym full) ∙ alike-at position.base.registers filled r alike) is
   row-contains (op.Fill r v) outcome.Filled piece plain ranges answered row moments after =
-      record {
-        full = filled-full r v (held_in position.base.registers r) piece refl row;
-        are_filled =
-            fill-filled g setting position.base filled r v (held_in position.base.registers r) outcome.Filled (filled_in filled (op.Fill r v)) piece legal alike refl
-            refl (alike-at position.base.registers filled r alike) row
-            (once-registers (kept_from 0 position.magazines) position.base.registers once-before) has.are_filled;
-      }
+      fill-filled g setting position.base filled r v (held_in position.base.registers r) outcome.Filled (filled_in filled (op.Fill r v)) piece legal alike refl
+      refl (alike-at position.base.registers filled r alike) row
+      (once-registers (kept_from 0 position.magazines) position.base.registers once-before) has
   row-contains (op.Alloc r need v) outcome.Refused piece plain ranges answered row moments after = absurd answered
   row-contains (op.Alloc r need v) outcome.Spent piece plain ranges answered row moments after = absurd answered
   row-contains (op.Resize r need) outcome.Refused piece plain ranges answered row moments after = absurd answered

@@ -7,10 +7,11 @@ use Rattle.pool_model.specs.Counts.{is_alloc, is_free}
 use Rattle.pool_model.specs.Histories.{Begins}
 use Rattle.trace_text.specs.Traces.{IsOp}
 use Rattle.trace_text.specs.declared.trace.Op.{Op}
+use Rattle.lane_outcomes.specs.Deeds.{deed_of, register_of}
 use Rattle.lane_outcomes.specs.declared.outcome.Outcome.{Outcome}
 use Rattle.lane_outcomes.specs.declared.outcome.Outcome.TheVariants as outcome
 use Rattle.lane_outcomes.specs.Cached.{CachedPosition, CachedRow, CachedWalks, cached_after, hit_of, magazines_after, served_for}
-use Rattle.lane_outcomes.specs.Lane.{registers_after}
+use Rattle.lane_outcomes.specs.Lane.{held_in, registers_after}
 use Rattle.lane_outcomes.specs.LaneCounts.{as_one}
 use Rattle.lane_outcomes.specs.Magazines.{emptying}
 use Rattle.lane_outcomes.specs.Rows.{Setting}
@@ -20,7 +21,7 @@ use Rattle.roomy_traces.specs.Through.{asked, kept_after, most_kept, served}
 use Rattle.roomy_traces.proofs.LaneLemmas.{all-begins, all-ends, count-begins}
 use Rattle.roomy_traces.proofs.SpentLemmas.{IsUnspent, spent-stays}
 use Rattle.roomy_traces.proofs.BalanceLemmas.{gives-one, row-balance, row-sided}
-use Rattle.roomy_traces.proofs.RegisterLemmas.{IsAlike, IsAnswered, alike-count, row-alike}
+use Rattle.roomy_traces.proofs.RegisterLemmas.{IsAlike, IsAnswered, alike-count, row-serial}
 use Rattle.roomy_traces.proofs.MostHeldLemmas.{IsUnrefusing, answered-or, begins-cases, behind-most, during-least, during-moved, inside-most, refused-gives, refused-most, row-refuses}
 use Rattle.roomy_traces.proofs.through_lemmas.MagazineLemmas.{counts_of, total}
 use Rattle.roomy_traces.proofs.through_lemmas.BareLemmas.{row-bare, row-refused, row-served}
@@ -50,12 +51,13 @@ pub goes-beside :
     → GoesBeside depth position filled kept operation result piece
 goes-beside setting depth position filled kept operation result piece plain answered row beside =
     let bare = row-bare setting depth position operation result piece plain beside.fresh row in
-    let there = row-served setting depth position.base position.magazines filled operation result bare.0 plain beside.alike answered bare.1 in
+    let serial = row-serial setting position.base filled operation result bare.0 plain beside.alike answered bare.1 in
+    let there = row-served depth position.magazines position.base.registers filled operation result bare.0 serial in
     record {
       beside = record {
-        alike = row-alike setting position.base filled operation result bare.0 plain beside.alike answered bare.1;
+        alike = serial.alike;
         needs = needs-after position.base.registers operation result plain beside.needs;
-        long = magazines-long depth position.magazines position.base.registers operation result ∙ beside.long;
+        long = magazines-long depth position.magazines (held_in position.base.registers (register_of operation)) (deed_of operation result) ∙ beside.long;
         counts = there.counts ∙ ap (λ (k : List ℕ). kept_after depth k (filled_in filled operation) operation) beside.counts;
         fresh = spent-stays position.base.spent result (unspent-of result answered) ∙ beside.fresh;
       };
@@ -118,7 +120,7 @@ answered-through setting depth from to filled kept operation operations result p
     let balance : c.given + now ≡ c.freed + then =
     omega (
       arith,
-      row-balance as_one setting from.base operation result bare.0 plain ranges beside.alike.many bare.1,
+      row-balance as_one setting depth from operation result piece plain ranges beside.alike.many row,
       alike-count as_one from.base.registers filled beside.alike,
       alike-count as_one (registers_after from.base.registers operation result) next goes.beside.alike,
       c.gives,
@@ -127,7 +129,7 @@ answered-through setting depth from to filled kept operation operations result p
       has,
     ) in
     let least : now ≤ during = omega (arith, during-least filled operation) in
-    let few : c.given ≤ 1 = omega (arith, c.gives, gives-one operation result) in
+    let few : c.given ≤ 1 = omega (arith, c.gives, gives-one (deed_of operation result)) in
     let sided : (c.given ≡ 0) ⊎ ((c.freed ≡ 0) ⊎ (c.given + now ≤ during)) =
     elim (row-sided setting from.base filled operation result bare.0 beside.alike bare.1) [
       | inl none ↦ inl (omega (arith, none, c.gives))
@@ -167,7 +169,7 @@ refused-through setting depth from to filled kept operation operations piece pla
             (most_kept depth (serial_after filled operation) (kept_after depth kept (filled_in filled operation) operation) operations)
             (held_during filled operation + sum kept) part piece none_given (omega (arith, during-least filled operation)) inside
         | inr past ↦
-            absurd (row-refuses setting from.base operation piece plain (row-refused setting depth from operation piece row)
+            absurd (row-refuses setting from.base operation piece (row-refused setting depth from operation piece row)
             (all-begins IsUnrefusing piece past.0 (subst (AllByRecursion IsUnrefusing) past.1 none)))
       ];
     }

@@ -1,10 +1,9 @@
 -- The outcomes of a lane through a cache are those of the lane computed on its own, and its magazines serve what they serve there.
-use Rattle.std.proofs.Common.{ℕ, suc, get_or, ◌≡◌, ◌+◌, ◌<◌, List, [], ◌∷◌, ◌++◌, Option, Some, None, length, map, refl, sym, ◌∙◌, ap, subst, inl, inr, arith, append_assoc}
+use Rattle.std.proofs.Common.{ℕ, suc, get_or, ◌≡◌, ◌+◌, ◌<◌, List, [], ◌∷◌, ◌++◌, Option, length, map, refl, sym, ◌∙◌, ap, subst, inl, inr, arith, append_assoc}
 use Rattle.std.specs.List.{AllByRecursion}
 use Rattle.std.proofs.lemmas.List.{get_or-map, length-map, same_lists}
 use Rattle.std.proofs.lemmas.List.Sums.{sum_by-cons}
 use Rattle.heap_geometry.specs.declared.geometry.Geometry.{Geometry}
-use Rattle.heap_geometry.specs.declared.limits.TheConstants.{CLASSES}
 use Rattle.pool_model.specs.declared.event.Event.{Event}
 use Rattle.pool_model.specs.Histories.{own}
 use Rattle.pool_model.specs.Legal.{IsLegal, IsLegalWithoutCounts}
@@ -13,18 +12,13 @@ use Rattle.trace_text.specs.declared.limits.TheConstants.{REGISTERS}
 use Rattle.trace_text.specs.Traces.{IsOp, IsTrace}
 use Rattle.trace_text.specs.declared.trace.Op.{Op}
 use Rattle.trace_text.specs.declared.trace.Trace.{Trace}
-use Rattle.lane_outcomes.specs.declared.registers.HeldBlock.{HeldBlock}
 use Rattle.lane_outcomes.specs.declared.outcome.Outcome.{Outcome}
 use Rattle.lane_outcomes.specs.Cached.{CachedFits, CachedLanesFit, CachedOutcomesFit, CachedPosition, CachedRow, CachedWalks, cached_after, cached_start}
-use Rattle.lane_outcomes.specs.Lane.{held_in}
 use Rattle.lane_outcomes.specs.LaneCounts.{as_one, lane_freed, lane_given}
 use Rattle.lane_outcomes.specs.Magazines.{emptying, kept_from}
 use Rattle.lane_outcomes.specs.Rows.{Setting}
 use Rattle.lane_outcomes.specs.Standing.{setting_in}
 use Rattle.lane_outcomes.proofs.CachedLemmas.{Stands, cached-row-keeps, starts-keeping}
-use Rattle.lane_outcomes.proofs.HoldLemmas.{held-nothing}
-use Rattle.lane_outcomes.proofs.KeptLemmas.{kept-nothing}
-use Rattle.lane_outcomes.proofs.SlotLemmas.{slots}
 use Rattle.roomy_traces.specs.Roomy.{Filled, IsPlain, filled_in, no_blocks, serial_after}
 use Rattle.roomy_traces.specs.Serial.{serial_end, serial_from, serial_outcome, serial_outcomes, without_place}
 use Rattle.roomy_traces.specs.Through.{IsRoomyThrough, kept_after, none_kept, serial_hits, served_from}
@@ -34,37 +28,28 @@ use Rattle.roomy_traces.proofs.RegisterLemmas.{IsAlike, IsAnswered, own_by, row-
 use Rattle.roomy_traces.proofs.BalanceLemmas.{row-balance}
 use Rattle.roomy_traces.proofs.MostHeldLemmas.{IsUnrefusing, answered-or, row-refuses}
 use Rattle.roomy_traces.proofs.RefuseLemmas.{lane-ranges}
-use Rattle.roomy_traces.proofs.FilledLemmas.{filled-start, row-summed}
+use Rattle.roomy_traces.proofs.FilledLemmas.{AreFilled, filled-start, row-summed}
 use Rattle.roomy_traces.proofs.through_lemmas.BareLemmas.{row-bare, row-refused}
-use Rattle.roomy_traces.proofs.through_lemmas.FilledLemmas.{Contains, row-contains}
+use Rattle.roomy_traces.proofs.through_lemmas.FilledLemmas.{row-contains}
 use Rattle.roomy_traces.proofs.through_lemmas.MostKeptLemmas.{AddsThrough, GoesBeside, IsBeside, goes-beside, walk-adds_through}
 use Rattle.roomy_traces.proofs.through_lemmas.SlotLemmas.{once-kept}
 use Rattle.roomy_traces.proofs.through_lemmas.UnrefusedLemmas.{beside-start, never-refused_through}
-use Rattle.roomy_traces.proofs.through_lemmas.UnspentLemmas.{cached-fits, cached-many, never-spent_through, plain-through}
+use Rattle.roomy_traces.proofs.through_lemmas.UnspentLemmas.{cached-many, never-spent_through, plain-through}
+use Rattle.lane_outcomes.proofs.LanesLemmas.{cached-lane}
 
 -- a lane through a cache stands beside the lane computed on its own, with what its blocks contain
 record StandsThrough (g : Geometry) (setting : Setting) (legal : IsLegalWithoutCounts g setting.history) (position : CachedPosition) (filled : List (Option Filled)) (kept : List ℕ) : Type 0 where
   pub beside : IsBeside position filled kept
-  pub has : Contains g setting legal position.base.done position.magazines position.base.registers filled
+  pub has : AreFilled setting.history setting.caller position.base.done position.base.registers filled
   pub got : ℕ
   pub gone : ℕ
   pub keeps : Stands as_one setting position got gone
-
-no-slots : (r : ℕ) (held : HeldBlock) → held_in (slots (kept_from 0 (cached_start).magazines) (cached_start).base.registers) r ≡ Some held → ⊥
-no-slots r held full =
-    let none : kept_from 0 (cached_start).magazines ≡ [] = kept-nothing 0 CLASSES in
-    let e : None ≡ Some held =
-    sym (held-nothing REGISTERS r) ∙ ap (λ (kept : List HeldBlock). held_in (slots kept (cached_start).base.registers) r) (sym none) ∙ full in
-    absurd (cc)
 
 stands-start : (g : Geometry) (setting : Setting) (legal : IsLegalWithoutCounts g setting.history) → StandsThrough g setting legal cached_start no_blocks none_kept
 stands-start g setting legal =
     record {
       beside = beside-start;
-      has = record {
-        full = λ r held full. absurd (no-slots r held full);
-        are_filled = filled-start setting.history setting.caller REGISTERS no_blocks;
-      };
+      has = filled-start setting.history setting.caller REGISTERS no_blocks;
       got = 0;
       gone = 0;
       keeps = starts-keeping as_one setting;
@@ -106,7 +91,7 @@ module _ (g : Geometry) (setting : Setting) (legal : IsLegalWithoutCounts g sett
       elim (answered-or result unspent.0) [
         | inl answer ↦ answer
         | inr refused ↦
-            absurd (row-refuses setting from.base operation piece plain.0
+            absurd (row-refuses setting from.base operation piece
             (row-refused setting depth from operation piece (subst (λ (r : Outcome). CachedRow setting depth from operation r piece) refused row)) quiet)
       ] in
       let bare = row-bare setting depth from operation result piece plain.0 stands.beside.fresh row in
@@ -125,18 +110,19 @@ module _ (g : Geometry) (setting : Setting) (legal : IsLegalWithoutCounts g sett
       (own_is ∙ ap (λ (xs : List Event). (done ++ xs) ++ behind) is ∙ ap (λ (xs : List Event). xs ++ behind) (sym (append_assoc done part more))
       ∙ append_assoc (done ++ part) more behind))
       (once-kept history caller (done ++ piece) (kept_from 0 next.magazines) next.base.registers _ _ keeps_after after) in
-      let serial = row-serial setting from.base filled operation result bare.0 plain.0 stands.beside.alike answered (row-summed setting from.base filled operation result bare.0 bare.1 stands.has.are_filled) bare.1 in
+      let serial = row-serial setting from.base filled operation result bare.0 plain.0 stands.beside.alike answered bare.1 in
+      let summed = row-summed setting from.base filled operation result bare.0 bare.1 stands.has in
       let stands_after : StandsThrough g setting legal next (serial_after filled operation) (kept_after depth kept (filled_in filled operation) operation) =
       record { beside = goes.beside; has = has; got = _; gone = _; keeps = keeps_after } in
       let later = walk-serial next to (serial_after filled operation) (kept_after depth kept (filled_in filled operation) operation) operations results plain.1
       ranges.1 unspent.1 unrefusing all_used walks stands_after in
       record {
         outcomes =
-            ap (λ o. o ∷ map without_place results) serial.outcome_is
+            ap (λ o. o ∷ map without_place results) (serial.outcome_is summed)
             ∙ ap (λ os. serial_outcome (filled_in filled operation) operation ∷ os) later.outcomes;
         balance = λ f. omega (
           arith,
-          row-balance f setting from.base operation result bare.0 plain.0 ranges.0 stands.beside.alike.many bare.1,
+          row-balance f setting depth from operation result piece plain.0 ranges.0 stands.beside.alike.many row,
           later.balance f,
         );
         alike = later.alike;
@@ -170,7 +156,7 @@ module _ (trace : Trace) (history : List Event) (lost depth : ℕ) (outcomes : L
       (λ k d below.
       let within : k < length outcomes = omega (arith, below, length-map outcomes (map without_place)) in
       let inside : k < length trace.lanes = omega (arith, within, many) in
-      let fits = cached-fits trace.heap history lost depth trace.lanes outcomes hits fit.lanes_fit k inside in
+      let fits = cached-lane trace.heap history lost depth trace.lanes outcomes hits fit.lanes_fit k inside in
       get_or-map (map without_place) outcomes k [] d within
       ∙ (lane-serial_through k fits.0 inside fits.1).outcomes
       ∙ sym (get_or-map serial_outcomes trace.lanes k [] d inside))

@@ -26,7 +26,8 @@ use Rattle.roomy_traces.proofs.RefuseLemmas.{alike-start, lane-ranges, none-refu
 use Rattle.roomy_traces.proofs.through_lemmas.MagazineLemmas.{start-counts}
 use Rattle.roomy_traces.proofs.through_lemmas.CountLemmas.{cached-tame, frees-all, needs-start}
 use Rattle.roomy_traces.proofs.through_lemmas.MostKeptLemmas.{IsBeside, walk-holds_through}
-use Rattle.roomy_traces.proofs.through_lemmas.UnspentLemmas.{cached-fits, never-spent_through, plain-through}
+use Rattle.roomy_traces.proofs.through_lemmas.UnspentLemmas.{never-spent_through, plain-through}
+use Rattle.lane_outcomes.proofs.LanesLemmas.{cached-lane}
 
 -- a lane before its first operation stands beside the lane computed on its own
 pub beside-start : IsBeside cached_start no_blocks none_kept
@@ -49,7 +50,7 @@ module _ (trace : Trace) (history : List Event) (lost depth : ℕ) (outcomes : L
     (roomy : IsRoomyThrough depth trace) (fit : CachedOutcomesFit trace.heap history lost depth trace.lanes outcomes hits) where
   tame-through : (k : ℕ) → k < length trace.lanes → AllByRecursion IsTame (own k history)
   tame-through k below =
-      let fits = cached-fits trace.heap history lost depth trace.lanes outcomes hits fit.lanes_fit k below in
+      let fits = cached-lane trace.heap history lost depth trace.lanes outcomes hits fit.lanes_fit k below in
       let end : CachedPosition = fits.1.end in
       subst (AllByRecursion IsTame) (sym fits.1.all_used)
       (all-append IsTame end.base.done (emptying k end.magazines)
@@ -62,7 +63,7 @@ module _ (trace : Trace) (history : List Event) (lost depth : ℕ) (outcomes : L
       (before : List Event) → Begins before history → (k : ℕ) → k < length trace.lanes → AllByRecursion IsUnrefusing (own k before)
       → count_by is_alloc (own k before) ≤ count_by is_free (own k before) + most_kept depth no_blocks none_kept (get_or trace.lanes k [])
   most-through before begins k below none =
-      let fits = cached-fits trace.heap history lost depth trace.lanes outcomes hits fit.lanes_fit k below in
+      let fits = cached-lane trace.heap history lost depth trace.lanes outcomes hits fit.lanes_fit k below in
       let holds = walk-holds_through (setting_in history k trace.heap.turn_limit lost) depth cached_start fits.1.end no_blocks none_kept
       (get_or trace.lanes k []) (get_or outcomes k []) (plain-through depth trace roomy k below) (lane-ranges trace named k below)
       (never-spent_through trace history lost depth outcomes hits roomy fit k below) beside-start fits.1.walks in

@@ -1,5 +1,5 @@
 -- No lane of a trace that is roomy through caches runs out of turns.
-use Rattle.std.proofs.Common.{ℕ, zero, suc, false, count_by, get_or, ◌≡◌, ◌+◌, ◌<◌, ◌≤◌, List, [], ◌∷◌, ◌++◌, Option, Some, None, cond, length, refl, sym, ◌∙◌, ap, subst, arith, add-zero}
+use Rattle.std.proofs.Common.{ℕ, suc, false, count_by, get_or, ◌≡◌, ◌+◌, ◌<◌, ◌≤◌, List, [], ◌∷◌, ◌++◌, Option, Some, None, cond, length, refl, ◌∙◌, ap, arith}
 use Rattle.std.specs.List.{AllByRecursion}
 use Rattle.std.proofs.lemmas.List.{length-replicate}
 use Rattle.std.proofs.lemmas.List.Sums.{sum_by-append, sum_by-cons}
@@ -12,6 +12,8 @@ use Rattle.pool_model.specs.Histories.{own}
 use Rattle.trace_text.specs.declared.limits.TheConstants.{REGISTERS}
 use Rattle.trace_text.specs.declared.trace.Op.{Op}
 use Rattle.trace_text.specs.declared.trace.Trace.{Trace}
+use Rattle.lane_outcomes.specs.Lane.{held_in}
+use Rattle.lane_outcomes.specs.Deeds.{deed_of, register_of}
 use Rattle.lane_outcomes.specs.declared.outcome.Outcome.{Outcome}
 use Rattle.lane_outcomes.specs.declared.outcome.Outcome.TheVariants as outcome
 use Rattle.lane_outcomes.specs.Cached.{CachedFits, CachedLanesFit, CachedOutcomesFit, CachedPosition, CachedRow, CachedWalks, answered_by, cached_after, cached_start, served_for}
@@ -25,30 +27,9 @@ use Rattle.roomy_traces.proofs.LaneLemmas.{count-begins}
 use Rattle.roomy_traces.proofs.SpentLemmas.{AreFewOthers, IsUnspent, answered-step, asks, few-others, given-asked, row-unspent, spent-stays}
 use Rattle.roomy_traces.proofs.through_lemmas.BareLemmas.{row-spent}
 use Rattle.roomy_traces.proofs.through_lemmas.CountLemmas.{AreNeeds, cached-counts, emptying-none, needs-after, needs-start}
+use Rattle.lane_outcomes.proofs.LanesLemmas.{cached-lane}
 
 -- each lane's outcomes fit
-fits-at :
-    (g : Geometry) (history : List Event) (lost depth first : ℕ) (lanes : List (List Op)) (outcomes : List (List Outcome)) (hits : ℕ)
-    → CachedLanesFit g history lost depth first lanes outcomes hits → (k : ℕ) → k < length lanes
-    → (these : ℕ) × CachedFits (setting_in history (first + k) g.turn_limit lost) depth (get_or lanes k []) (get_or outcomes k []) these
-fits-at g history lost depth first [] outcomes hits fit k below = absurd (omega arith)
-fits-at g history lost depth first (operations ∷ lanes) [] hits fit k below = absurd fit
-fits-at g history lost depth first (operations ∷ lanes) (results ∷ outcomes) hits (these, others, all, one, more) zero below =
-    (these, subst (λ n. CachedFits (setting_in history n g.turn_limit lost) depth operations results these) (sym (add-zero first)) one)
-fits-at g history lost depth first (operations ∷ lanes) (results ∷ outcomes) hits (these, others, all, one, more) (suc k) below =
-    let next : suc first + k ≡ first + suc k = omega arith in
-    subst (λ n. (served : ℕ) × CachedFits (setting_in history n g.turn_limit lost) depth (get_or lanes k []) (get_or outcomes k []) served) next
-    (fits-at g history lost depth (suc first) lanes outcomes others more k (omega arith))
-
-pub cached-fits :
-    (g : Geometry) (history : List Event) (lost depth : ℕ) (lanes : List (List Op)) (outcomes : List (List Outcome)) (hits : ℕ)
-    → CachedLanesFit g history lost depth 0 lanes outcomes hits → (k : ℕ) → k < length lanes
-    → (these : ℕ) × CachedFits (setting_in history k g.turn_limit lost) depth (get_or lanes k []) (get_or outcomes k []) these
-cached-fits g history lost depth lanes outcomes hits fit k below =
-    let same : 0 + k ≡ k = omega arith in
-    subst (λ n. (served : ℕ) × CachedFits (setting_in history n g.turn_limit lost) depth (get_or lanes k []) (get_or outcomes k []) served) same
-    (fits-at g history lost depth 0 lanes outcomes hits fit k below)
-
 pub cached-many :
     (g : Geometry) (history : List Event) (lost depth first : ℕ) (lanes : List (List Op)) (outcomes : List (List Outcome)) (hits : ℕ)
     → CachedLanesFit g history lost depth first lanes outcomes hits → length outcomes ≡ length lanes
@@ -82,7 +63,7 @@ walk-allocs_through setting depth from to (operation ∷ operations) (result ∷
       sum_by-cons (λ o. cond (may_allocate o) 1 0) operation operations,
       walk-allocs_through setting depth (cached_after depth from operation result walks.0) to operations results plain.1
           (needs-after from.base.registers operation result plain.0 needs)
-          (magazines-long depth from.magazines from.base.registers operation result ∙ long) walks.2,
+          (magazines-long depth from.magazines (held_in from.base.registers (register_of operation)) (deed_of operation result) ∙ long) walks.2,
     )
 
 allocs-through :
@@ -106,7 +87,7 @@ row-unspent_through :
     → AreFewOthers setting others → position.base.answered + asks operation + others ≤ setting.turn_limit → position.base.spent ≡ false
     → CachedRow setting depth position operation result piece → IsUnspent result
 row-unspent_through setting depth position others operation outcome.Spent piece plain few room fresh row =
-    row-unspent setting position.base others operation outcome.Spent piece plain few room fresh (row-spent setting depth position operation piece row)
+    row-unspent setting position.base others operation outcome.Spent piece few room fresh (row-spent setting depth position operation piece row)
 row-unspent_through setting depth position others operation result piece plain few room fresh row = tt
 
 walk-unspent_through :
@@ -135,7 +116,7 @@ pub never-spent_through :
     → CachedOutcomesFit trace.heap history lost depth trace.lanes outcomes hits → (k : ℕ) → k < length trace.lanes
     → AllByRecursion IsUnspent (get_or outcomes k [])
 never-spent_through trace history lost depth outcomes hits roomy fit k below =
-    let fits = cached-fits trace.heap history lost depth trace.lanes outcomes hits fit.lanes_fit in
+    let fits = cached-lane trace.heap history lost depth trace.lanes outcomes hits fit.lanes_fit in
     let mine = fits k below in
     walk-unspent_through (setting_in history k trace.heap.turn_limit lost) depth (count_by (gives_another_small k) history) cached_start mine.1.end
     (get_or trace.lanes k []) (get_or outcomes k []) (plain-through depth trace roomy k below)

@@ -1,12 +1,12 @@
-use Rattle.std.proofs.Common.{rules, ◌≡◌, [], false, true, Ok, Err, inl, inr}
+use Rattle.std.proofs.Common.{rules, ◌≡◌, [], false, Ok, Err, inl, inr}
 use Rattle.errand_steps.specs.Begins.{IsIdle}
 use Rattle.live_heap.specs.declared.answers.FreeAnswer.TheVariants as free_answer
 use Rattle.balloc_c.specs.declared.refusal.Refusal.TheVariants as refusal
 use Rattle.balloc_c.specs.Closed.{Empties, has_out, leave_bar}
 use Rattle.balloc_c.specs.Slots.{blocks_of}
 use Rattle.balloc_c.specs.Through.{IsFlush}
-use Rattle.balloc_c.proofs.BarLemmas.{makes, refuses}
-use Rattle.balloc_c.proofs.LeaveLemmas.{leave-made, leave-out}
+use Rattle.balloc_c.proofs.BarLemmas.{makes}
+use Rattle.balloc_c.proofs.LeaveLemmas.{leave-made}
 use Rattle.balloc_c.proofs.Tending.{bare-holds, holds-bare}
 use Rattle.balloc_c.proofs.calls.free_all.Goals as goal
 

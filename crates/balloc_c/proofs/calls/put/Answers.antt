@@ -10,6 +10,7 @@ use Rattle.balloc_c.proofs.Tending.{back-tends, gone-tends, held-at}
 use Rattle.heap_geometry.specs.declared.limits.TheConstants.{SHELVES}
 use Rattle.balloc_c.proofs.MadeCalls.{full-answers, loses-at, put-answers}
 use Rattle.balloc_c.proofs.Packing.{back-packed, few-gone, few-out, few-set, gone-packed}
+use Rattle.balloc_c.proofs.Numbers.{found-seen}
 use Rattle.balloc_c.proofs.calls.put.Goals as goal
 
 pub put-requires-clause-held : goal.put-requires-clause-held
@@ -113,4 +114,4 @@ returns-in-Err-clause-few c =
 pub take_home-block-requires-clause-home : goal.take_home-block-requires-clause-home
 take_home-block-requires-clause-home c =
     home-slot (block_at c.args.table.now.slots.items c.in-Some.index)
-    (λ none. c.in-Some.ensures.found.3 (c.in-Some.ensures.found.2 ∙ none)) (sym c.is_out.ensures ∙ c.if-is_out.false)
+    (found-seen c.args.table.now c.args.number c.in-Some.index c.in-Some.ensures.found.1 c.in-Some.ensures.found.3) (sym c.is_out.ensures ∙ c.if-is_out.false)

@@ -1,4 +1,4 @@
-use Rattle.std.proofs.Common.{◌≡◌, refl, Result}
+use Rattle.std.proofs.Common.{◌≡◌, Result}
 use Rattle.balloc_c.specs.declared.refusal.Refusal.{Refusal}
 use Rattle.balloc_c.specs.Codes.{word_in}
 use Rattle.balloc_c.specs.Hands.{heap_of}

@@ -1,4 +1,4 @@
-use Rattle.std.proofs.Common.{rules, ◌≡◌, true, false, Some, None, Ok, Err, List, ℕ, refl, sym, ap, ◌∙◌, subst}
+use Rattle.std.proofs.Common.{rules, ◌≡◌, true, false, Some, None, Ok, Err, refl, sym, ap, ◌∙◌, subst}
 use Rattle.std.specs.Prelude.{not}
 use Rattle.std.proofs.lemmas.Option.{same_Some}
 use Rattle.errand_steps.specs.Points.{is_idle}
@@ -7,14 +7,15 @@ use Rattle.plain_words.specs.Places.{numbers}
 use Rattle.plain_words.specs.declared.plain.PlainWords.{PlainWords}
 use Rattle.balloc_c.specs.declared.kept.Kept.TheVariants as kept
 use Rattle.balloc_c.specs.declared.refusal.Refusal.TheVariants as refusal
-use Rattle.balloc_c.specs.Kept.{block_of, is_out}
-use Rattle.balloc_c.specs.Lending.{HasComeHome, IsBackFor, StaysHome}
+use Rattle.balloc_c.specs.Kept.{block_of}
+use Rattle.balloc_c.specs.Lending.{IsBackFor, StaysHome}
 use Rattle.balloc_c.specs.Numbers.{named}
-use Rattle.balloc_c.specs.Outcomes.{barred, is_busy, names_none}
+use Rattle.balloc_c.specs.Outcomes.{barred, names_none}
 use Rattle.balloc_c.specs.Slots.{block_at}
 use Rattle.balloc_c.proofs.BarLemmas.{in-call, no-block}
 use Rattle.balloc_c.proofs.LendingLemmas.{home-slot, out-slot}
-use Rattle.balloc_c.proofs.MemoryCalls.{gives-nothing, gives-words, home-refused, nothing-back, numbers-memory, some-numbers, stays-busy, stays-home, words-back}
+use Rattle.balloc_c.proofs.MemoryCalls.{gives-nothing, gives-words, home-refused, numbers-memory, some-numbers, stays-busy, stays-home, words-back}
+use Rattle.balloc_c.proofs.Numbers.{found-seen}
 use Rattle.balloc_c.proofs.lending.bring.Goals as goal
 
 pub returns-then-not-idle-clause-answers : goal.returns-then-not-idle-clause-answers
@@ -82,7 +83,7 @@ returns-clause-answers c =
     let t = c.args.table.now in
     let index = c.in-Some.index in
     let idle : is_idle s.pass.errand.point ≡ true = search rules in
-    let home = home-slot (block_at t.slots.items index) (λ none. c.in-Some.ensures.found.3 (c.in-Some.ensures.found.2 ∙ none)) (sym c.is_out.ensures ∙ c.if-is_out.false) in
+    let home = home-slot (block_at t.slots.items index) (found-seen c.args.table.now c.args.number c.in-Some.index c.in-Some.ensures.found.1 c.in-Some.ensures.found.3) (sym c.is_out.ensures ∙ c.if-is_out.false) in
     let names : named t c.args.number ≡ Some (kept.Home home.0) = c.in-Some.ensures.found.2 ∙ home.1 in (
       Ok tt,
       c.none-2.ensures.1,

@@ -1,4 +1,4 @@
-use Rattle.std.proofs.Common.{◌≡◌, ◌≢◌, Some, sym, ap, ◌∙◌, subst, length-set}
+use Rattle.std.proofs.Common.{◌≡◌, ◌≢◌, Some, refl, sym, ap, ◌∙◌, subst, length-set}
 use Rattle.std.specs.Prelude.{length}
 use Rattle.plain_words.specs.Places.{numbers}
 use Rattle.live_heap.specs.declared.block.Block.{Block}
@@ -63,8 +63,8 @@ returns c =
     (writes_from k.block.place k.block.need 0 (numbers k.words.places)) d.pass) whole m.wrote in
     let others = subst (λ (k : Memory). (other : Memory) → HasTaken s.pass other → other.block.place ≢ k.block.place → HasTaken d.pass other) whole m.others in
     record {
-      tends = home-tends h s d t.slots.items c.take_lent-lent.new.self.slots.items u.slots.items index lent block c.args.words (numbers c.args.words.places)
-          c.requires.tends c.requires.idle c.requires.within is c.take_lent-lent.ensures.slots c.set.ensures.slots (m.block ∙ sym token) m.cache m.keeps
+      tends = home-tends h s d t.slots.items c.take_lent-lent.new.self.slots.items u.slots.items index (kept.Out lent) lent.place lent.need block c.args.words
+          (numbers c.args.words.places) c.requires.tends c.requires.idle c.requires.within is refl c.take_lent-lent.ensures.slots c.set.ensures.slots (m.block ∙ sym token) m.cache m.keeps
           wrote m.owned others m.owns;
       packed = back-packed t c.take_lent-lent.new.self u index (kept.Out lent) (kept.Home block) c.requires.packed c.requires.within is
           c.take_lent-lent.ensures.slots c.take_lent-lent.ensures.spare c.set.ensures.slots c.set.ensures.spare;
@@ -78,7 +78,7 @@ returns c =
         was = c.requires.named ∙ is;
         now = subst (λ (b : Block). Renames t c.args._number (kept.Home b) u) (m.block ∙ sym token)
             (renames-at t u c.take_lent-lent.new.self.slots.items index c.args._number (kept.Out lent) (kept.Home block) c.requires.is c.requires.within
-            (c.requires.named ∙ is) c.take_lent-lent.ensures.slots c.set.ensures.slots);
+            (c.requires.named ∙ is) c.take_lent-lent.ensures.slots c.set.ensures.slots refl);
         wrote = wrote;
         keeps = m.keeps;
       };

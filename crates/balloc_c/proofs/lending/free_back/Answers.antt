@@ -1,17 +1,16 @@
-use Rattle.std.proofs.Common.{rules, ◌≡◌, true, false, Some, None, Ok, Err, List, ℕ, Result, refl, sym, ap, ◌∙◌, subst}
+use Rattle.std.proofs.Common.{rules, ◌≡◌, true, false, Some, None, Err, refl, sym, ap, ◌∙◌, subst, inr, true≢false}
 use Rattle.std.specs.Prelude.{not}
 use Rattle.errand_steps.specs.Points.{is_idle}
-use Rattle.plain_words.specs.declared.plain.PlainWords.{PlainWords}
 use Rattle.balloc_c.specs.declared.kept.Kept.TheVariants as kept
 use Rattle.balloc_c.specs.declared.refusal.Refusal.TheVariants as refusal
-use Rattle.balloc_c.specs.Kept.{is_out}
-use Rattle.balloc_c.specs.Lending.{FreesBack, IsBackFor, zeros}
+use Rattle.balloc_c.specs.Lending.{IsBackFor, zeros}
 use Rattle.balloc_c.specs.Numbers.{named}
 use Rattle.balloc_c.specs.Outcomes.{Frees, HasFreed, barred, free_bar, names_none, names_out}
 use Rattle.balloc_c.specs.Slots.{block_at}
 use Rattle.balloc_c.proofs.BarLemmas.{in-call, no-block, refuses}
-use Rattle.balloc_c.proofs.LendingLemmas.{home-slot, out-slot}
+use Rattle.balloc_c.proofs.LendingLemmas.{home-not-out, home-slot, out-slot}
 use Rattle.balloc_c.proofs.MemoryCalls.{gives-nothing, nothing-left, stays-busy, words-back}
+use Rattle.balloc_c.proofs.Numbers.{found-seen, some-not-none}
 use Rattle.balloc_c.proofs.lending.free_back.Goals as goal
 
 pub returns-then-not-idle-clause-answers : goal.returns-then-not-idle-clause-answers
@@ -24,9 +23,12 @@ returns-then-not-idle-clause-answers c =
       Err refusal.InCall,
       c.requires.code,
       tt,
-      stays-busy h s t n zeros (λ e v result d u. HasFreed e v n result d u) c.args.back.words (ap not busy)
-          (refuses (free_bar s.pass t n) refusal.InCall (Frees s t n) s t
-          (in-call s.pass (barred (names_none t n) refusal.NoBlock (barred (names_out t n) refusal.Out None)) busy)),
+      inr (
+        (λ idle room. true≢false (sym idle ∙ busy)),
+        stays-busy h s t n zeros (λ e v result d u. HasFreed e v n result d u) c.args.back.words (ap not busy)
+            (refuses (free_bar s.pass t n) refusal.InCall (Frees s t n) s t
+            (in-call s.pass (barred (names_none t n) refusal.NoBlock (barred (names_out t n) refusal.Out None)) busy)),
+      ),
     )
 
 pub returns-in_default-clause-answers : goal.returns-in_default-clause-answers
@@ -40,13 +42,16 @@ returns-in_default-clause-answers c =
       Err refusal.NoBlock,
       c.none.ensures.1 ∙ c.word.ensures,
       c.none.ensures.2,
-      gives-nothing h s t n zeros (λ e v result d u. HasFreed e v n result d u) c.args.back.words c.none.result.words (Err refusal.NoBlock) s t
-          (subst (λ slot. IsBackFor h slot c.args.back.words) none c.requires.back) c.none.ensures.2
-          (refuses (free_bar s.pass t n) refusal.NoBlock (Frees s t n) s t (no-block s.pass t n (barred (names_out t n) refusal.Out None) idle none)),
+      inr (
+        (λ rests room. some-not-none (kept.Out room.lent) (sym room.out ∙ none)),
+        gives-nothing h s t n zeros (λ e v result d u. HasFreed e v n result d u) c.args.back.words c.none.result.words (Err refusal.NoBlock) s t
+            (subst (λ slot. IsBackFor h slot c.args.back.words) none c.requires.back) c.none.ensures.2
+            (refuses (free_bar s.pass t n) refusal.NoBlock (Frees s t n) s t (no-block s.pass t n (barred (names_out t n) refusal.Out None) idle none)),
+      ),
     )
 
-pub free_out-freed-requires-clause-words : goal.free_out-freed-requires-clause-words
-free_out-freed-requires-clause-words c =
+pub free_lent-requires-clause-words : goal.free_lent-requires-clause-words
+free_lent-requires-clause-words c =
     let h = c.args.heap.now in
     let t = c.args.table.now in
     let index = c.in-Some.index in
@@ -54,21 +59,9 @@ free_out-freed-requires-clause-words c =
     let back = words-back h out.0 c.args.back.words (subst (λ slot. IsBackFor h slot c.args.back.words) (c.in-Some.ensures.found.2 ∙ out.1) c.requires.back) in
     (out.0, back.0, out.1, back.1, back.2)
 
-pub returns-then-is_out-clause-answers : goal.returns-then-is_out-clause-answers
-returns-then-is_out-clause-answers c =
-    let h = c.args.heap.now in
-    let outcome = c.free_out-freed.result in
-    let r = c.none-then-is_out.result in (
-      outcome,
-      c.none-then-is_out.ensures.1 ∙ c.word-then-is_out.ensures,
-      nothing-left outcome r.words c.none-then-is_out.ensures.2,
-      subst (λ left. FreesBack h c.args.cache.now c.args.table.now c.args.number c.args.back.words outcome left c.free_out-freed.new.cache c.free_out-freed.new.table)
-          (sym c.none-then-is_out.ensures.2) c.free_out-freed.ensures.answers,
-    )
-
 pub free_home-requires-clause-home : goal.free_home-requires-clause-home
 free_home-requires-clause-home c =
-    home-slot (block_at c.args.table.now.slots.items c.in-Some.index) (λ none. c.in-Some.ensures.found.3 (c.in-Some.ensures.found.2 ∙ none))
+    home-slot (block_at c.args.table.now.slots.items c.in-Some.index) (found-seen c.args.table.now c.args.number c.in-Some.index c.in-Some.ensures.found.1 c.in-Some.ensures.found.3)
     (sym c.is_out.ensures ∙ c.if-is_out.false)
 
 pub returns-clause-answers : goal.returns-clause-answers
@@ -78,12 +71,15 @@ returns-clause-answers c =
     let t = c.args.table.now in
     let n = c.args.number in
     let index = c.in-Some.index in
-    let home = home-slot (block_at t.slots.items index) (λ none. c.in-Some.ensures.found.3 (c.in-Some.ensures.found.2 ∙ none)) (sym c.is_out.ensures ∙ c.if-is_out.false) in
+    let home = home-slot (block_at t.slots.items index) (found-seen c.args.table.now c.args.number c.in-Some.index c.in-Some.ensures.found.1 c.in-Some.ensures.found.3) (sym c.is_out.ensures ∙ c.if-is_out.false) in
     let names : named t n ≡ Some (kept.Home home.0) = c.in-Some.ensures.found.2 ∙ home.1 in
     let outcome = c.free_home.result in (
       outcome,
       c.none-2.ensures.1 ∙ c.word-2.ensures,
       nothing-left outcome c.none-2.result.words c.none-2.ensures.2,
-      gives-nothing h s t n zeros (λ e v result d u. HasFreed e v n result d u) c.args.back.words c.none-2.result.words outcome c.free_home.new.cache c.free_home.new.table
-          (subst (λ slot. IsBackFor h slot c.args.back.words) names c.requires.back) c.none-2.ensures.2 c.free_home.ensures.answers,
+      inr (
+        (λ rests room. home-not-out home.0 room.lent (sym names ∙ room.out)),
+        gives-nothing h s t n zeros (λ e v result d u. HasFreed e v n result d u) c.args.back.words c.none-2.result.words outcome c.free_home.new.cache
+            c.free_home.new.table (subst (λ slot. IsBackFor h slot c.args.back.words) names c.requires.back) c.none-2.ensures.2 c.free_home.ensures.answers,
+      ),
     )

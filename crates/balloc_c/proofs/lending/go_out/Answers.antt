@@ -1,21 +1,18 @@
-use Rattle.std.proofs.Common.{◌≡◌, ◌<◌, ◌+◌, Some, refl, sym, ap, ◌∙◌, subst, length-set}
+use Rattle.std.proofs.Common.{ℕ, ◌≡◌, ◌+◌, Some, refl, sym, ap, ◌∙◌, subst, length-set}
 use Rattle.std.specs.Ptr.{ptr_add}
 use Rattle.std.specs.Borrow.{u64}
 use Rattle.std.specs.Prelude.{length}
-use Rattle.heap_geometry.specs.declared.need.Need.{Need}
-use Rattle.heap_geometry.specs.Need.{IsNeed}
 use Rattle.plain_words.specs.Owned.{Lies}
 use Rattle.plain_words.specs.Places.{numbers}
 use Rattle.plain_words.specs.declared.plain.PlainWords.{PlainWords}
 use Rattle.live_heap.specs.declared.block.Block.{Block}
 use Rattle.live_heap.specs.declared.plain.Memory.{Memory}
 use Rattle.live_heap.proofs.laws_for_builders.Hands.{block-same}
-use Rattle.live_heap.specs.declared.pass.Pass.{Pass}
 use Rattle.live_heap.specs.Memory.{before_taking}
 use Rattle.balloc_c.specs.declared.kept.Kept.TheVariants as kept
 use Rattle.balloc_c.specs.declared.lent.LentBlock.{LentBlock}
 use Rattle.balloc_c.specs.Kept.{block_of}
-use Rattle.balloc_c.specs.Slots.{block_at, no_slot}
+use Rattle.balloc_c.specs.Slots.{block_at}
 use Rattle.balloc_c.specs.Lending.{memory_at}
 use Rattle.balloc_c.proofs.LendingLemmas.{lies-first, out-tends}
 use Rattle.balloc_c.proofs.Numbers.{renames-at}
@@ -44,8 +41,9 @@ returns c =
     let words : c.into_words.result ≡ memory.words = c.into_words.ensures in
     let token : block_of (kept.Out lent) ≡ block =
     block-same (block_of (kept.Out lent)) block (c.new.ensures.0 ∙ c.place-place.ensures) (c.new.ensures.1 ∙ c.need-need.ensures) in
+    let place : memory.block.place ≡ lent.place = ap (λ (b : Block). b.place) m.block ∙ sym (c.new.ensures.0 ∙ c.place-place.ensures) in
     let lies : Lies h.region.at (lent.place + 1) =
-    lies-first h lent.place memory m.memory (ap (λ (b : Block). b.place) m.block ∙ sym (c.new.ensures.0 ∙ c.place-place.ensures))
+    lies-first h lent.place memory m.memory place
     (subst (λ (w : PlainWords). Lies w.at (w.first + length w.places)) words c.of_words-words.ensures.3) in
     let begins : c.of_words-words.result.memory ≡ memory_at h memory.block.place =
     c.of_words-words.ensures.0
@@ -54,7 +52,7 @@ returns c =
     record {
       tends = out-tends h s d t.slots.items c.take_home-block.new.self.slots.items u.slots.items index block lent memory (numbers memory.words.places)
           c.requires.tends c.requires.idle m.idle c.requires.within is c.take_home-block.ensures.slots c.set.ensures.slots token m.block m.cache m.keeps
-          m.before m.last lies;
+          m.before m.last lies (m.memory.first ∙ ap (λ (n : ℕ). n + 1) place) m.aligned;
       packed = back-packed t c.take_home-block.new.self u index (kept.Home block) (kept.Out lent) c.requires.packed c.requires.within is
           c.take_home-block.ensures.slots c.take_home-block.ensures.spare c.set.ensures.slots c.set.ensures.spare;
       count = ap length c.set.ensures.slots ∙ length-set c.take_home-block.new.self.slots.items index _ ∙ ap length c.take_home-block.ensures.slots
@@ -69,7 +67,7 @@ returns c =
           lent = lent;
           token = token ∙ sym m.block;
           now = renames-at t u c.take_home-block.new.self.slots.items index c.args._number (kept.Home block) (kept.Out lent) c.requires.is c.requires.within
-              (c.requires.named ∙ is) c.take_home-block.ensures.slots c.set.ensures.slots;
+              (c.requires.named ∙ is) c.take_home-block.ensures.slots c.set.ensures.slots refl;
           words = m.memory;
           aligned = m.aligned;
           taken = m.taken;

@@ -1,4 +1,4 @@
-use Rattle.std.proofs.Common.{rules, ◌≡◌, true, false, Some, None, Ok, Err, refl, sym, ap, ◌∙◌, subst}
+use Rattle.std.proofs.Common.{rules, ◌≡◌, true, false, Some, None, Ok, Err, refl, sym, ◌∙◌, subst}
 use Rattle.errand_steps.specs.Points.{is_idle}
 use Rattle.balloc_c.specs.declared.kept.Kept.TheVariants as kept
 use Rattle.balloc_c.specs.declared.refusal.Refusal.TheVariants as refusal
@@ -10,6 +10,7 @@ use Rattle.balloc_c.proofs.BarLemmas.{in-call, no-block}
 use Rattle.balloc_c.proofs.LendingLemmas.{home-slot, out-slot}
 use Rattle.balloc_c.proofs.MemoryCalls.{memory-again, memory-answers, memory-refused}
 use Rattle.balloc_c.proofs.Packing.{few-same}
+use Rattle.balloc_c.proofs.Numbers.{found-seen}
 use Rattle.balloc_c.proofs.lending.memory.Goals as goal
 
 pub returns-then-not-idle-clause-answers : goal.returns-then-not-idle-clause-answers
@@ -61,7 +62,7 @@ returns-then-is_out-clause-answers c =
 pub go_out-requires-clause-home : goal.go_out-requires-clause-home
 go_out-requires-clause-home c =
     home-slot (block_at c.args.table.now.slots.items c.in-Some.index)
-    (λ none. c.in-Some.ensures.found.3 (c.in-Some.ensures.found.2 ∙ none)) (sym c.is_out.ensures ∙ c.if-is_out.false)
+    (found-seen c.args.table.now c.args.number c.in-Some.index c.in-Some.ensures.found.1 c.in-Some.ensures.found.3) (sym c.is_out.ensures ∙ c.if-is_out.false)
 
 pub returns-clause-few : goal.returns-clause-few
 returns-clause-few c = few-same c.args.table.now c.go_out.new.table c.go_out.ensures.count
@@ -74,7 +75,7 @@ returns-clause-answers c =
     let r = c.go_out in
     let idle : is_idle s.pass.errand.point ≡ true = search rules in
     let home = home-slot (block_at t.slots.items c.in-Some.index)
-    (λ none. c.in-Some.ensures.found.3 (c.in-Some.ensures.found.2 ∙ none)) (sym c.is_out.ensures ∙ c.if-is_out.false) in
+    (found-seen c.args.table.now c.args.number c.in-Some.index c.in-Some.ensures.found.1 c.in-Some.ensures.found.3) (sym c.is_out.ensures ∙ c.if-is_out.false) in
     let out = r.ensures.out in (
       Ok tt,
       r.ensures.code,

@@ -56,6 +56,7 @@ loop-pass-preserved c =
       blocks = ap blocks_of made.ensures.bare;
       empty = ap cached_in made.ensures.parts.1 ∙ new.1;
       deep = ap (λ (k : Cache). k.magazines.depth) made.ensures.parts.1 ∙ new.2;
+      rooms = made.ensures.rooms;
       hits = ap (λ (k : Cache). k.hits) made.ensures.parts.1 ∙ new.3;
     } in
     let within : c.loop-pass.number < length c.loop-pass.passes = omega (arith, ap length rest, i.count, c.loop-pass.auto.passes) in

@@ -1,13 +1,14 @@
-use Rattle.std.proofs.Common.{rules, ◌≡◌, Some, sym, ◌∙◌, refl, ap}
+use Rattle.std.proofs.Common.{rules, ◌≡◌, Some, sym, ◌∙◌, refl}
 use Rattle.errand_steps.specs.Begins.{IsIdle}
 use Rattle.sound_laws.specs.events.Made.{found_from}
 use Rattle.balloc_c.proofs.Going.{found-on, words-goes}
 use Rattle.balloc_c.specs.Slots.{block_at, lots_of}
 use Rattle.balloc_c.specs.Numbers.{named}
-use Rattle.balloc_c.specs.declared.kept.Kept.{Kept}
 use Rattle.balloc_c.specs.declared.kept.Kept.TheVariants as kept
 use Rattle.balloc_c.proofs.Tending.{held-at, same-tends}
 use Rattle.balloc_c.proofs.MadeCalls.{sum-answers}
+use Rattle.balloc_c.proofs.LendingLemmas.{home-slot}
+use Rattle.balloc_c.proofs.Numbers.{found-seen}
 use Rattle.balloc_c.proofs.ranges.sum.Goals as goal
 
 pub sum-requires-clause-held : goal.sum-requires-clause-held
@@ -15,8 +16,8 @@ sum-requires-clause-held c =
     let h = c.args.heap.now in
     let s = c.args.cache.now in
     let t = c.args.table.now in
-    let block = c.in-Home.block in
-    let is : block_at t.slots.items c.in-Some.index ≡ Some (kept.Home block) = sym c.block.ensures ∙ c.in-Some-block.is ∙ ap (λ (k : Kept). Some k) c.in-Home.is in
+    let block = c.home-block.result.now in
+    let is : block_at t.slots.items c.in-Some.index ≡ Some (kept.Home block) = c.home-block.ensures in
     let idle : IsIdle s.pass.errand = search rules in
     held-at h s t.slots.items c.in-Some.index block c.requires.tends idle c.in-Some.ensures.found.0 is
 
@@ -25,7 +26,7 @@ returns-clause-tends c =
     let h = c.args.heap.now in
     let s = c.args.cache.now in
     let t = c.args.table.now in
-    let block = c.in-Home.block in
+    let block = c.home-block.result.now in
     let idle : IsIdle s.pass.errand = search rules in
     same-tends h s c.sum.new.self t.slots.items t.slots.items c.requires.tends c.sum.ensures.cache
     (words-goes h s c.sum.new.self (found_from block.place block.need 0 c.sum.ensures.sums.0) (lots_of t.slots.items) c.requires.tends.cache idle
@@ -37,8 +38,15 @@ returns-clause-answers c =
     let h = c.args.heap.now in
     let s = c.args.cache.now in
     let t = c.args.table.now in
-    let block = c.in-Home.block in
-    let is : block_at t.slots.items c.in-Some.index ≡ Some (kept.Home block) = sym c.block.ensures ∙ c.in-Some-block.is ∙ ap (λ (k : Kept). Some k) c.in-Home.is in
+    let block = c.home-block.result.now in
+    let is : block_at t.slots.items c.in-Some.index ≡ Some (kept.Home block) = c.home-block.ensures in
     let idle : IsIdle s.pass.errand = search rules in
     let names : named t c.args.number ≡ Some (kept.Home block) = c.in-Some.ensures.found.2 ∙ is in
     sum-answers h s t c.args.number c.sum.result block c.sum.new.self idle names c.requires.tends.cache.hand.of (c.sum.ensures.sums, c.sum.ensures.keeps)
+
+pub home-block-requires-clause-home : goal.home-block-requires-clause-home
+home-block-requires-clause-home c =
+    let t = c.args.table.now in
+    let index = c.in-Some.index in
+    home-slot (block_at t.slots.items index) (found-seen t c.args.number index c.in-Some.ensures.found.1 c.in-Some.ensures.found.3)
+    (sym c.is_out.ensures ∙ c.if-is_out.false)

@@ -14,7 +14,7 @@ returns-then-size-le-FAR-clause-value c = rw (lt-leb c.args.size 64 c.if-size-le
 pub returns-then-size-le-PAIRED-clause-value : goal.returns-then-size-le-PAIRED-clause-value
 unfolding size_number
 returns-then-size-le-PAIRED-clause-value c =
-    rw (lt-leb c.args.size 64 c.if-size-le-NEAR.false, lt-leb c.args.size 256 c.if-size-le-FAR.false, le-leb c.args.size 1022 c.if-size-le-PAIRED.true) refl
+    rw (lt-leb c.args.size 64 c.if-size-le-NEAR.false, lt-leb c.args.size 256 c.if-size-le-FAR.false, le-leb c.args.size 1022 c.if-size-le-PAIRED.true) c.shared_number.ensures
 
 pub returns-else-size-le-PAIRED-clause-value : goal.returns-else-size-le-PAIRED-clause-value
 unfolding size_number

@@ -1,5 +1,4 @@
-use Rattle.std.proofs.Common.{sym, refl, arith}
-use Rattle.std.proofs.lemmas.Bool.{false≢true}
+use Rattle.std.proofs.Common.{sym, ◌∙◌, arith}
 use Rattle.std.proofs.lemmas.Grind.{common_steps}
 use Rattle.trace_text.specs.Lines.{fields_of}
 use Rattle.trace_text.specs.Said.{after_op}
@@ -13,4 +12,4 @@ returns-in_err-op c = grind (arith, common_steps)
 pub returns : goal.returns
 returns c =
     op_taken c.args.trace.now c.args.word.now (fields_of c.args.fields.now) c.in_ok-op.op c.push_op.new.self
-    (λ none. false≢true (c.if-is_empty.ensures.1 none)) (c.if-not-is_empty.ensures.0 refl) (sym c.in_ok-op.ensures) c.in_ok-push_op.ensures
+    (sym c.is_in_lane.ensures ∙ c.if-not-is_in_lane.false) (sym c.in_ok-op.ensures) c.in_ok-push_op.ensures

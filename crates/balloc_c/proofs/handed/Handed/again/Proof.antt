@@ -1,5 +1,5 @@
 -- The pointer leads to words that others own.
-use Rattle.plain_words.proofs.Names.{◌≡◌, ℕ, ◌+◌, ◌*◌, ◌^◌, ◌<◌, [], ◌∷◌, sym, refl, ap, arith, w64, Val, vint, SProp, emp, ftrue, ‵, raw, ◌⊛◌, at_ret, ◌$◌, ◌∵◌, !, qed, by, move, keep, split, fjoin, use0, rewrite, stop, fld, lit, of_opd, bin, no_more, and_then, first, blocks, exec, returns, enter, alloc_all, pass_all, free_all, look_at, get, get_in, sets, env, sub, whole, agg, tables, yes, RattleType, owns, types_at, plain, Ptr, block_ptr, block_of, count_of, at_block, nothing, heard, alive, Stays, stay_dropped, walk_of, Goes-dropped, fact, fact_i, u64, usize, uint_vals, uint_Tells, proved, leaves, tail, full_share, fat, take_at, give_at, sets_last}
+use Rattle.plain_words.proofs.Names.{◌≡◌, ℕ, ◌+◌, ◌*◌, ◌^◌, ◌<◌, [], ◌∷◌, sym, refl, ap, arith, w64, Val, vint, SProp, emp, ‵, raw, ◌⊛◌, at_ret, ◌$◌, ◌∵◌, !, qed, by, move, keep, split, fjoin, use0, rewrite, stop, fld, lit, of_opd, bin, no_more, and_then, first, blocks, exec, returns, enter, alloc_all, pass_all, free_all, look_at, get, get_in, sets, env, sub, whole, agg, tables, yes, RattleType, owns, types_at, plain, Ptr, block_ptr, block_of, count_of, at_block, nothing, heard, alive, Stays, stay_dropped, walk_of, Goes-dropped, fact, fact_i, u64, usize, uint_vals, uint_Tells, proved, leaves, tail, full_share, fat, take_at, give_at, sets_last}
 use Rattle.plain_words.proofs.Made.{start_val, start_told, start_good}
 use Rattle.std.proofs.Common.{w32}
 use denote.Builtin.{u32}

@@ -1,9 +1,9 @@
 -- The words are owned as they were.
-use Rattle.plain_words.proofs.Names.{◌≡◌, ℕ, ◌+◌, ◌^◌, ◌<◌, List, [], ◌∷◌, length, refl, Val, vint, SProp, emp, id⊢, ftrue, ‵, raw, ◌⊛◌, ◌$◌, ◌∵◌, !, qed, by, move, keep, drop, split, fsplit, fjoin, fpick, fpack, rewrite, use0, use1, no_more, and_then, returns, enter, alloc_all, pass_all, free_all, look_at, get, sets, agg, tables, yes, RattleType, owns, types_at, plain, Ptr, nothing, heard, alive, Stays, stay_dropped, walk_of, Goes-dropped, fact, fact_i, proved, leaves, RawPtr}
+use Rattle.plain_words.proofs.Names.{◌≡◌, ℕ, ◌^◌, ◌<◌, List, [], ◌∷◌, refl, Val, SProp, emp, id⊢, ‵, raw, ◌⊛◌, ◌$◌, ◌∵◌, !, qed, by, move, keep, split, fsplit, fjoin, rewrite, use0, use1, no_more, and_then, returns, enter, alloc_all, pass_all, free_all, look_at, get, sets, agg, tables, yes, RattleType, owns, types_at, plain, Ptr, nothing, heard, alive, Stays, stay_dropped, walk_of, Goes-dropped, fact, fact_i, proved, leaves, RawPtr}
 use Rattle.plain_words.proofs.Made.{token_val, Token, token_made}
-use Rattle.std.specs.Prelude.{Option, Some, None}
+use Rattle.std.specs.Prelude.{Option, Some}
 use Rattle.plain_words.specs.Places.{Place}
-use Rattle.plain_words.specs.Owned.{Lies, plain_owns}
+use Rattle.plain_words.specs.Owned.{plain_owns}
 use Rattle.plain_words.specs.contracts.plain.PlainWords as plain_words
 use Rattle.balloc_c.specs.Handing.{words_own}
 use Rattle.balloc_c.specs.contracts.handed.Handed as handed

@@ -18,5 +18,5 @@ pub returns-in-Ok-clause-packed : goal.returns-in-Ok-clause-packed
 returns-in-Ok-clause-packed c =
     let t = c.args.self.now in
     let last : c.len-index.result ≡ length t.slots.items = omega (arith, c.len-index.ensures) in
-    grown-packed t (record { slots = c.push.new.self; spare = c.len-index.result }) (record { block = None; age = 0; next = t.spare }) c.requires.none
+    grown-packed t (record { slots = c.push.new.self; spare = c.len-index.result; laid = t.laid }) (record { block = None; age = 0; next = t.spare }) c.requires.none
     c.requires.full (omega (arith, last, c.if-index-ge4294967295.false)) refl refl c.in-Ok.ensures.items last

@@ -47,5 +47,5 @@ returns-in-Err c =
       subst (λ (n : ℕ). n < c.args.bytes) c.bytes_in.ensures c.if-bytes-bytes_in.false,
       inr (is_refused c.deref-2.result.now before _ c.args.bytes told.result.code c.in-Some.words c.take.result c.deref-2.ensures refl words c.in-Some.ensures.words.1 code cause.1
           (λ ready. (c.take.ensures.served (subst (λ (n : ℕ). HasPieceReady before.cache (piece_words n)) (sym words) ready)).0) c.take.ensures.cause c.take.ensures.keeps
-          c.take.ensures.only),
+          c.take.ensures.only (λ none. c.take.ensures.no_hit (λ ready. none (subst (λ (n : ℕ). HasPieceReady before.cache (piece_words n)) words ready)))),
     ))

@@ -1,4 +1,5 @@
 use Rattle.std.proofs.Common.{None, length, sym, ap, ◌∙◌, subst, refl, arith, rules}
+use Rattle.std.proofs.Math.Nat.{zero-mod}
 use Rattle.crossbeam_queue.specs.Passes.{view, IsPassOf}
 use Rattle.block_pipe.specs.declared.sender.Sender.{Sender}
 use Rattle.block_pipe.specs.declared.rule.Known.{Known}
@@ -20,7 +21,7 @@ loop-number-preserved c =
     let i = c.loop-number.invariant in
     let n = c.loop-number.number in
     let a = c.another-theirs.ensures in
-    let s : Sender = record { end = c.another-theirs.result; number = n; sent = 0; pending = None } in
+    let s : Sender = record { end = c.another-theirs.result; number = n; sent = 0; turn = 0; pending = None } in
     let mine = a.rule.1 ∙ ap first_sender i.left in
     record {
       of = search rules;
@@ -36,6 +37,8 @@ loop-number-preserved c =
             from = ap (λ (v : Known). v.from) mine;
             until = ap (λ (v : Known). v.until) mine;
             count = sym (ap (λ (v : Known). length (of_sender n v.sent)) mine);
+            turn = sym (zero-mod pipe.shelves);
+            within = omega (arith, sh, c.requires.shelves.0);
             next = tt;
           } in
           subst (AreNewFrom pipe 0) (sym c.push_reserved.ensures.items)

@@ -47,6 +47,8 @@ returns-in-Ok-clause-of g c =
         from = ap (λ (v : Known). v.from) w ∙ r.from;
         until = ap (λ (v : Known). v.until) w ∙ r.until;
         count = omega (arith, r.count, more);
+        turn = c.next_turn-self.ensures.next s.sent r.turn;
+        within = c.next_turn-self.ensures.within;
         next = tt;
       },
       refl,

@@ -13,5 +13,7 @@ returns-clause-of c =
       from = r.from;
       until = r.until;
       count = r.count;
-      next = (refl, record { sender = r.has; seq = r.count; few = c.requires.few; shelf = c.shelf.ensures.value });
+      turn = r.turn;
+      within = r.within;
+      next = (refl, record { sender = r.has; seq = r.count; few = c.requires.few; shelf = c.requires.shelf });
     }

@@ -3,12 +3,12 @@ use Rattle.memory_cache.proofs.page.Page.push.Goals as goal
 
 pub returns : goal.returns
 returns c =
-    let number = c.number_of-number.ensures in
+    let o = c.requires.out in
     record {
-      number = c.number_of-number.result;
+      number = c.args.number;
       next = c.args.self.now.head;
-      within = number.1;
-      out = number.2;
-      first = number.0;
+      within = o.within;
+      out = o.out;
+      first = o.there;
       same = record { place = refl; need = refl; size = refl; slots = refl; rest = refl };
     }

@@ -27,7 +27,7 @@ returns-clause-cut g c =
     elim c.if-home-gt0.branch [
       | then-home-gt0 w ↦ (
         subst P (sym w.self-is)
-            (cut-table g.h s grown e w.link.new.self c.args.memory x page left key c.grow.ensures.same within is whole cut pops refl refl w.link.ensures),
+            (cut-table g.h s grown e w.link.new.self c.args.memory x page left key c.grow.ensures.same within is whole cut pops refl refl w.link.ensures.same),
         sized,
       )
       | else-home-gt0 w ↦ (

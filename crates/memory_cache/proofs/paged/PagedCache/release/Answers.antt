@@ -1,4 +1,4 @@
-use Rattle.std.proofs.Common.{◌≡◌, ℕ, ◌<◌, ◌⊎◌, List, Option, Some, None, length, false, sym, refl, ap, ◌∙◌, subst, arith, inl, inr, slice_index_or, get_or-set_same, get_or-set_other}
+use Rattle.std.proofs.Common.{◌≡◌, ℕ, ◌<◌, ◌⊎◌, List, Option, Some, None, length, false, true, sym, refl, ap, ◌∙◌, subst, arith, inl, inr, slice_index_or, get_or-set_same, get_or-set_other}
 use Rattle.std.proofs.lemmas.Option.{same_Some}
 use Rattle.std.specs.Vec.{with_item}
 use Rattle.std.specs.Result.{IfErr}
@@ -10,7 +10,7 @@ use Rattle.memory_cache.specs.Asking.{HasSettled}
 use Rattle.memory_cache.specs.Caches.{IsCache}
 use Rattle.memory_cache.specs.Paged.{HasSameOut, IsOut, page_at}
 use Rattle.memory_cache.specs.Pages.{AllHome}
-use Rattle.memory_cache.proofs.PagedLemmas.{held-block, moved-out, out-refl, out-there, sent-home, with_cache}
+use Rattle.memory_cache.proofs.PagedLemmas.{held-block, moved-out, out-refl, out-there, sent-home, takes-in, with_cache}
 use Rattle.memory_cache.proofs.TableLemmas.{page-read, table-is, within-table}
 use Rattle.memory_cache.proofs.TakenPages.{comes-home, err-first}
 use Rattle.memory_cache.proofs.paged.PagedCache.release.Goals as goal
@@ -95,3 +95,36 @@ returns-clause-same g c =
     (subst (λ (x : HeapFields). IsCache x c.give.new.self) c.requires.0 c.give.ensures.cache) c.give.ensures.keeps c.give.ensures.only done
     (get_or-set_same s.pages.items k c.take.new.self None within ∙ c.take.ensures.after)
     (λ j ne. get_or-set_other s.pages.items k j c.take.new.self None ne) (c.give.ensures.caller ∙ c.settled.ensures.caller)
+
+pub returns-clause-behind : goal.returns-clause-behind
+returns-clause-behind g c =
+    let s = c.args.self.now in
+    let k = c.args.key in
+    let mine = c.in-Some.page in
+    let q = c.settled.new.self in
+    let m = c.into_memory.result in
+    let at : page_at s k ≡ Some c.in-Some-Some.page =
+    sym (c.in-Some-Some.ensures.lookup.4 (omega arith) None ∙ ap (λ (l : List (Option Page)). slice_index_or l k None) c.deref.ensures.value)
+    ∙ c.in-Some-Some.field-0-is in
+    let within : k < length s.pages.items = within-table s.pages.items k c.in-Some-Some.page at in
+    let there : page_at s k ≡ Some mine =
+    page-read s k c.index_mut.result.now within c.index_mut.ensures.value ∙ sym c.take.ensures.value ∙ c.in-Some.is in
+    let done : IfErr c.give.result (λ back. ⊥) =
+    comes-home q m c.give.result (inr (c.settled.ensures.idle c.if-not-settled.false)) (λ room. (c.give.ensures.kept room).0)
+    (err-first c.give.result (IsBusy q.pass.errand) (HasSettled c.args.heap.now q.pass c.args.tries false c.give.new.self.pass) c.give.ensures.cause) in
+    inr
+    (inr
+    (record {
+      page = mine;
+      there = there;
+      gone = get_or-set_same s.pages.items k c.take.new.self None within ∙ c.take.ensures.after;
+      memory = m;
+      of = c.into_memory.ensures.block;
+      settled = q;
+      has_settled = (
+        subst (λ (x : HeapFields). HasSettled x s.cache.pass c.args.tries true q.pass) c.requires.0
+            (subst (λ b. HasSettled c.args.heap.now s.cache.pass c.args.tries b q.pass) c.if-not-settled.false c.settled.ensures.tells),
+        c.settled.ensures.same,
+      );
+      taken = takes-in c.args.heap.now g.h q m c.args.tries c.give.result c.give.new.self c.requires.0 done c.give.ensures.kept c.give.ensures.sent;
+    }))

@@ -1,0 +1,19 @@
+use Rattle.std.proofs.Common.{◌≡◌, Some, true≢false, sym, ap, ◌∙◌}
+use Rattle.std.proofs.lemmas.Bool.Decides.{eqb_tells}
+use Rattle.heap_geometry.specs.declared.need.Need.TheVariants.{Small}
+use Rattle.balloc_c.specs.declared.kept.Kept.{Kept}
+use Rattle.balloc_c.specs.Slots.{block_at}
+use Rattle.balloc_c.proofs.Slots.{by_case}
+use Rattle.balloc_c.proofs.table.Table.is_ready.Goals as goal
+
+pub returns-in-Small-clause-yes : goal.returns-in-Small-clause-yes
+returns-in-Small-clause-yes c same =
+    let own : c.in-Small.own ≡ c.args.class =
+    by_case (λ is. is.1) (λ other. absurd (true≢false (sym same ∙ other.0))) (eqb_tells c.in-Small.own c.args.class) in (
+      c.in-Laid.memory,
+      record {
+        serves = sym c.need.ensures ∙ c.in-Small.is ∙ ap Small own;
+        there = ap (block_at c.args.self.now.slots.items) (sym c.requires) ∙ sym c.block.ensures ∙ c.in-Some.is
+            ∙ ap (λ (k : Kept). Some k) c.in-Laid.is;
+      },
+    )
