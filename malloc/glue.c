@@ -7,35 +7,36 @@
 #include <errno.h>
 #include <malloc.h>
 #include <pthread.h>
+#include <sched.h>
 #include <stdatomic.h>
 #include <stdlib.h>
 #include <string.h>
 #include <sys/mman.h>
-#include <sys/sysinfo.h>
 #define EXPORT __attribute__((visibility("default")))
-#define COUNT(at) atomic_store_explicit(&(at), (at) + 1, memory_order_relaxed) /* by one thread; others only look */
+#ifdef __x86_64__ /* one more, by one thread; others only look */
+#define COUNT(at) ({ __asm__("incq %0" : "+m"(at) : : "cc"); })
+#else
+#define COUNT(at) atomic_store_explicit(&(at), (at) + 1, memory_order_relaxed)
+#endif
 enum { HEAPS = 256, SEATS = 16, SHARED = 4, DEPTH = 8, FRAMES = 512, SIZES = 129, WAYS = 32, DONE = BALLOC_MALLOC_DONE };
 static const size_t WORD = 8, PAGE = 1 << 14, FRAME = 1 << 15, SLOT = 1 << 28, ALL = (size_t)HEAPS << 28, MOST = 2048, SHIFT = 48;
-extern void *__libc_malloc(size_t), *__libc_calloc(size_t, size_t), *__libc_realloc(void *, size_t);
-extern void *__libc_memalign(size_t, size_t), __libc_free(void *);
+extern void *__libc_malloc(size_t), *__libc_calloc(size_t, size_t), *__libc_realloc(void *, size_t), *__libc_memalign(size_t, size_t), __libc_free(void *);
 typedef struct seat { /* what others read, what its thread alone writes, and what others write are apart */
     _Alignas(64) _Atomic(void *) owner; /* the `me` of its thread; NULL where it is free */
     struct seat *next;                  /* a thread's seats stand in a ring */
-    balloc_seat *pass; size_t number, mark; /* of its pages' notes */
-    _Alignas(64) _Atomic size_t given[SIZES], freed[SIZES], awaits; /* its heap refused: asked first again once as many are freed */
+    balloc_seat *pass; uint32_t mark; /* of its pages' notes */
+    _Alignas(64) _Atomic size_t given[SIZES], freed[SIZES]; size_t awaits; /* its heap refused: asked first again once as many are freed */
     _Alignas(64) _Atomic(struct parcel *) list; /* what other threads freed */
 } seat;
 typedef struct parcel { balloc_bundle bundle; struct parcel *next; seat *to; size_t count; uint16_t sizes[BALLOC_MALLOC_MOST_PIECES]; } parcel;
 static balloc_seat passes[HEAPS * SEATS]; static seat seats[HEAPS * SEATS]; static pthread_key_t at_end;
 static size_t sizes[HEAPS]; static _Atomic size_t opened, region = 1ull << 63; /* where the heaps' slots begin; first, nowhere */
-static uint16_t notes[HEAPS << 14]; /* of each page: its seat in the heap, and in the lower 11 bits the size of its pieces */
+static uint32_t notes[HEAPS << 14]; /* of each page: its seat, and in the lower 11 bits the size of its pieces */
 static atomic_flag door = ATOMIC_FLAG_INIT; /* who finds it closed uses the C library; so may a forked child for ever */
 static _Thread_local struct { seat *first; size_t from; parcel *packed[WAYS], *spare; int spares; } me; /* its first seat is from below that heap */
 static inline size_t place_of(void *p) { return (size_t)p - region; } static inline int is_ours(void *p) { return place_of(p) < ALL; }
-static inline size_t seat_at(size_t place) { return place / SLOT * SEATS + notes[place / PAGE] / 2048; }
-static inline size_t size_at(size_t place) { return notes[place / PAGE] % 2048; }
 static inline size_t first_at(size_t place) { return place % SLOT / WORD - 1; } /* a heap's memory begins a word behind its slot */
-static inline size_t bytes_of(void *p) { return WORD * size_at(place_of(p)); }
+static inline size_t bytes_of(void *p) { return WORD * (notes[place_of(p) / PAGE] % 2048); }
 /* What the library asks for is the C library's; but a heap's words, far more than all else, begin its slot as it opens. */
 void *glue_malloc(size_t n)
 {
@@ -43,31 +44,32 @@ void *glue_malloc(size_t n)
     return n < FRAMES * FRAME ? __libc_malloc(n) : n <= SLOT && !mprotect(slot - SHIFT, n + SHIFT, PROT_READ | PROT_WRITE) ? slot : NULL;
 }
 void glue_free(void *p) { if (!is_ours(p)) __libc_free(p); }
-/* Pieces have an even number of words, up to those of MOST bytes: half as many is the number of their size. */
+/* Pieces have an even number of words, up to those of MOST bytes: half as many is the number of their size. Few sizes, few pages. */
+static inline size_t rounded(size_t n) { return n <= 128 ? n : n <= 256 ? (n + 31) & -32 : (n + 63) & -64; }
 static size_t sum(_Atomic size_t *counts) { size_t all = 0; for (int k = 0; k < SIZES; k++) all += counts[k]; return all; }
 static inline uint32_t take(seat *s, size_t n, void **p)
 {
-    uint32_t size = balloc_malloc_take(s->pass, n, p); if (size >= BALLOC_MALLOC_CAUSES) return size;
-    uint16_t note = s->mark | size, *noted = &notes[place_of(*p) / PAGE]; if (*noted != note) *noted = note; /* others read it */
+    uint32_t size = balloc_malloc_take(s->pass, rounded(n), p); if (size >= BALLOC_MALLOC_CAUSES) return size;
+    uint32_t note = s->mark | size, *noted = &notes[place_of(*p) / PAGE]; if (*noted != note) *noted = note; /* others read it */
     return COUNT(s->given[size / 2]), size;
 }
-static inline void give(seat *s, size_t at) { COUNT(s->freed[size_at(at) / 2]), balloc_malloc_give(s->pass, first_at(at), size_at(at)); }
+static inline void give(seat *s, size_t at, uint32_t size) { COUNT(s->freed[size / 2]), balloc_malloc_give(s->pass, first_at(at), size); }
 static void send(parcel *p) { if (p) for (p->next = p->to->list; !atomic_compare_exchange_weak(&p->to->list, &p->next, p);); }
-static __attribute__((noinline)) void give_or_pack(size_t place) /* sent at once where no end of the thread will be told */
+static __attribute__((noinline)) void give_or_pack(size_t place, uint32_t note) /* sent at once where no end of the thread will be told */
 {
-    seat *s = &seats[seat_at(place)]; parcel **way = &me.packed[seat_at(place) % WAYS], *p = *way;
+    uint32_t size = note % 2048; seat *s = &seats[note / 2048]; parcel **way = &me.packed[note / 2048 % WAYS], *p = *way;
     if (s->owner != &me) {
         if (p && p->to != s) send(p), p = NULL;
         if (!p) p = me.spare ? me.spares--, me.spare : __libc_calloc(1, sizeof(parcel)), me.spare = p ? p->next : NULL;
         if (!(*way = p)) return; /* no memory to note it in: it isn't used again */
-        p->to = s, p->sizes[p->count] = size_at(place), p->count = balloc_malloc_put(&p->bundle, first_at(place), size_at(place));
+        p->to = s, p->sizes[p->count] = size, p->count = balloc_malloc_put(&p->bundle, first_at(place), size);
         if (!me.first || p->count == BALLOC_MALLOC_MOST_PIECES) send(p), *way = NULL;
-    } else if (give(s, place), s->awaits && sum(s->freed) >= s->awaits) me.first = s, s->awaits = 0;
+    } else if (give(s, place, size), s->awaits && !--s->awaits) me.first = s;
 }
 EXPORT void free(void *p)
 {
-    size_t place = place_of(p); if (place >= ALL) return __libc_free(p);
-    if (me.first && me.first->number == seat_at(place)) give(me.first, place); else give_or_pack(place);
+    size_t place = place_of(p); seat *s = me.first; if (place >= ALL) return __libc_free(p);
+    uint32_t note = notes[place / PAGE], size; if (s && (size = note ^ s->mark) < 2048) give(s, place, size); else give_or_pack(place, note);
 }
 static void leave(void *first) /* at the thread's end */
 {
@@ -76,22 +78,22 @@ static void leave(void *first) /* at the thread's end */
 }
 static int open_heap(size_t h) /* the first one takes the addresses of all; what is opened since others refused is larger */
 {
-    const int how = MAP_PRIVATE | MAP_ANONYMOUS | MAP_NORESERVE, frames = FRAMES << (me.from < 3 ? me.from : 3);
+    const int how = MAP_PRIVATE | MAP_ANONYMOUS | MAP_NORESERVE, frames = FRAMES << (me.from < 3 ? me.from : 3); cpu_set_t cpus;
     void *words, *all = region >> 63 ? mmap(NULL, ALL + SLOT, PROT_NONE, how, -1, 0) : NULL;
     if (h == HEAPS || all == MAP_FAILED || (all && pthread_key_create(&at_end, leave))) return 0;
+    if (all && !sched_getaffinity(0, sizeof(cpus), &cpus)) mallopt(M_ARENA_MAX, CPU_COUNT(&cpus)); /* no thread asked more of it yet */
     if (all) region = ((size_t)all + SLOT - 1) / SLOT * SLOT + SHIFT;
-    return DONE == balloc_malloc_open(frames, SHARED, DEPTH, &passes[h * SEATS], SEATS, &words, &sizes[h])
-        && (size_t)words == region + h * SLOT + WORD;
+    return DONE == balloc_malloc_open(frames, SHARED, DEPTH, &passes[h * SEATS], SEATS, &words, &sizes[h]) && (size_t)words == region + h * SLOT + WORD;
 }
 static seat *sit(void) /* on a seat of a heap where this thread has none */
 {
     size_t i = me.from * SEATS; if (me.from > HEAPS || atomic_flag_test_and_set(&door)) return NULL;
     while (i < opened * SEATS && seats[i].owner) i++;
-    opened += i == opened * SEATS && open_heap(opened); if (i == 1) mallopt(M_ARENA_MAX, get_nprocs()); /* threads ask less of it */
+    opened += i == opened * SEATS && open_heap(opened);
     seat *found = i < opened * SEATS && !pthread_setspecific(at_end, &seats[i]) ? &seats[i] : NULL;
     me.from = found ? i / SEATS + 1 : HEAPS + 1; /* where there is none it looks no more */
     if (found) found->next = me.first ? me.first->next : found, *(me.first ? &me.first->next : &me.first) = found;
-    if (found) found->pass = &passes[i], found->number = i, found->mark = i % SEATS << 11, found->owner = &me;
+    if (found) found->pass = &passes[i], found->mark = i << 11, found->owner = &me;
     return atomic_flag_clear(&door), found;
 }
 static __attribute__((noinline)) void *search(size_t n) /* from seat to seat of the ring, and then on new ones */
@@ -99,11 +101,11 @@ static __attribute__((noinline)) void *search(size_t n) /* from seat to seat of 
     uint32_t code = DONE; seat *s = n > MOST ? NULL : me.first ? me.first : sit();
     for (; s; s = s->next != me.first ? s->next : code == BALLOC_MALLOC_REFUSED || code == BALLOC_MALLOC_SPENT ? sit() : NULL) {
         void *p; for (parcel *b = atomic_exchange(&s->list, NULL), *next; b; b = next) {
-            for (next = b->next; b->count; b->count--) COUNT(s->freed[b->sizes[b->count - 1] / 2]);
+            for (next = b->next; b->count; b->count--) COUNT(s->freed[b->sizes[b->count - 1] / 2]), s->awaits -= s->awaits > 1;
             if (!balloc_malloc_empty(s->pass, &b->bundle)) { if (me.spares > WAYS) __libc_free(b); else b->next = me.spare, me.spare = b, me.spares++; }
         }
         if ((code = take(s, n, &p)) < BALLOC_MALLOC_CAUSES) return me.first = s, p;
-        s->awaits = sum(s->freed) + (sum(s->given) - sum(s->freed)) / 8 + 1;
+        s->awaits = (sum(s->given) - sum(s->freed)) / 8 + 1;
     }
     return __libc_malloc(n);
 }

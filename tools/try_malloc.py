@@ -9,8 +9,8 @@ libtcmalloc-minimal4 (the other allocators), sqlite3, perl, python3, git, gcc, a
 
 First examples/c/answers.c, over balloc alone. Then each program runs N times over each allocator, by turns: what it writes
 has to be the same over all of them. Two tables tell the milliseconds of processor time (of user and system, with the
-program's own children) and the most memory that it held at once, in MB, each the median of N; and what balloc's are of the
-least of the other ones:
+program's own children) and the most memory that it held at once, in MB, each the median of N; and what balloc's are of those of
+the best other one: the median of what they are in each turn, since a host's pace may change between turns:
 
     sqlite3   tables and an index in memory: 200,000 rows inserted, selected, deleted and updated
     perl      strings of a hash that grow and go
@@ -171,8 +171,15 @@ class Run:
         self.time, self.memory = microseconds / 1e3, kilobytes / 1024
 
 
+def to_the_best(found, what):
+    """What balloc's figure is of the best other one's: of each, the median of what it is in one turn."""
+    return max(statistics.median(getattr(ours, what) / getattr(its, what) for ours, its in zip(found["balloc"], of))
+               for name, of in found.items() if name != "balloc")
+
+
 def compare(room, words, allocators, runs):
-    """The median time and memory over each allocator; and what differs from the first one's first run."""
+    """The median time and memory over each allocator, with balloc's to the best; and what differs from the first one's first
+    run."""
     first, found, wrong = None, {name: [] for name in allocators}, []
     for _ in range(runs):
         for name, library in allocators.items():
@@ -183,16 +190,16 @@ def compare(room, words, allocators, runs):
             found[name].append(run)
     medians = {name: tuple(statistics.median(getattr(it, what) for it in of) for what in ["time", "memory"])
                for name, of in found.items()}
+    medians["to the best"] = tuple(to_the_best(found, what) for what in ["time", "memory"])
     return medians, wrong
 
 
 def table(heading, figures, allocators, which):
     """A table of one of the figures: a row for each program, and balloc's to the best of the others."""
-    print(f"\n{heading}\n\n" + timed.table_head(["", *allocators, "to the least"]))
+    print(f"\n{heading}\n\n" + timed.table_head(["", *allocators, "to the best"]))
     for program, of in figures.items():
-        others = [values[which] for name, values in of.items() if name != "balloc"]
         cells = [f"{of[name][which]:.1f}" for name in allocators]
-        print(timed.row([program, *cells, f"{of['balloc'][which] / min(others):.2f}"]), flush=True)
+        print(timed.row([program, *cells, f"{of['to the best'][which]:.2f}"]), flush=True)
 
 
 def try_programs(room, library, options):

@@ -6,6 +6,7 @@ use Rattle.std.proofs.lemmas.Option.{same_Some}
 use Rattle.balloc_c.specs.declared.hand.Hand.{Hand}
 use Rattle.balloc_c.specs.declared.refusal.Refusal.{Refusal}
 use Rattle.balloc_c.specs.declared.refusal.Refusal.TheVariants as refusal
+use Rattle.shared_heap.specs.declared.shared.Left.{Left}
 use Rattle.balloc_c.specs.Closed.{Closes, LeavesBlocks, Outs, Shuts, TellsCensus, untold}
 use Rattle.balloc_c.specs.Codes.{code_in, code_of, resumed_code}
 use Rattle.balloc_c.specs.Outcomes.{Told}
@@ -59,14 +60,14 @@ told Call Shows was before next result held shows called =
 pub closes :
     (frees : Bool) (was now : Option Hand) (before next : Hand) (outcome : Result (Unit {0}) Refusal) (done : Unit {0}) (outs told : Outs)
     → was ≡ Some before → LeavesBlocks frees before outcome next → outcome ≡ Ok done → told.0 ≡ next.cache.pass.errand.won
-    → told.1 ≡ next.cache.pass.errand.lost → now ≡ None → TellsCensus next (untold outs.2) told.2 → Closes frees was (pos 0) outs told now
+    → told.1 ≡ next.cache.pass.errand.lost → now ≡ None → (left : Left) × TellsCensus next left (untold outs.2) told.2 → Closes frees was (pos 0) outs told now
 closes frees was now before next outcome done outs told held leaves is won_is lost_is empty tells =
     subst (λ (o : Option Hand). Closes frees o (pos 0) outs told now) (sym held) (
       outcome,
       next,
       leaves,
       sym (ap code_in is),
-      subst (λ (r : Result (Unit {0}) Refusal). Shuts r next outs told now) (sym is) (won_is, lost_is, empty, tells),
+      subst (λ (r : Result (Unit {0}) Refusal). Shuts r next outs told now) (sym is) (won_is, lost_is, empty, tells.0, tells.1),
     )
 
 pub stays_open :

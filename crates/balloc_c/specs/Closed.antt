@@ -1,6 +1,5 @@
 -- How a pass closes for C.
 use Rattle.std.specs.Prelude.{ℕ, ◌≡◌, if◌then◌else◌, Bool, true, false, ℤ, pos, negsuc, Option, Some, None, IsSomeAnd, Result, Ok, Err, List, [], ◌∷◌, ◌++◌, ◌⊎◌, replicate}
-use Rattle.std.specs.Arc.{arc_value}
 use Rattle.errand_steps.specs.Begins.{IsIdle}
 use Rattle.live_heap.specs.declared.answers.FreeAnswer.{FreeAnswer}
 use Rattle.live_heap.specs.declared.answers.FreeAnswer.TheVariants as free_answer
@@ -17,10 +16,11 @@ use Rattle.live_heap.specs.Memory.{before_taking, writes_from}
 use Rattle.live_heap.specs.Passes.{IsOf}
 use Rattle.live_heap.specs.Words.{CallsOnWord}
 use Rattle.block_cache.specs.Caches.{KeepsMagazines}
-use Rattle.live_heap.specs.Endings.{ClosedFields}
+use Rattle.shared_heap.specs.declared.shared.End.{End}
+use Rattle.shared_heap.specs.declared.shared.End.TheVariants as end
+use Rattle.shared_heap.specs.declared.shared.Left.{Left}
 use Rattle.shared_heap.specs.declared.shared.Receipt.{Receipt}
-use Rattle.shared_heap.specs.Gathered.{IsClosedWhole}
-use Rattle.shared_heap.specs.Shares.{IsReceiptFor}
+use Rattle.shared_heap.specs.Shares.{HasLeft, IsReceiptFor}
 use Rattle.block_cache.specs.declared.cache.Cache.{Cache}
 use Rattle.balloc_c.specs.declared.counted.Counted.{Counted}
 use Rattle.balloc_c.specs.declared.hand.Hand.{Hand}
@@ -31,7 +31,6 @@ use Rattle.balloc_c.specs.Census.{IsCountOf}
 use Rattle.balloc_c.specs.Codes.{code_in}
 use Rattle.balloc_c.specs.Outcomes.{Answers, Makes, barred, counts_of, is_busy}
 use Rattle.balloc_c.specs.Slots.{blocks_of}
-use Rattle.balloc_c.specs.Hands.{heap_of}
 use Rattle.balloc_c.specs.Through.{IsFlush, IsFree}
 
 -- words that the pass kept have come home: each was written with 0
@@ -104,13 +103,17 @@ LeavesBlocks false hand outcome next = (outcome ≡ Ok tt) × (next ≡ hand)
 abbrev pub GivesBack : Hand → Option Receipt → Type 0
 GivesBack hand left =
     IsIdle hand.cache.pass.errand → hand.ticket.caller ≡ hand.cache.pass.errand.caller
-    → IsSomeAnd left (IsReceiptFor (arc_value hand.heap) hand.cache.pass)
+    → IsSomeAnd left (IsReceiptFor hand.heap hand.cache.pass)
 
--- what is told of the heap: nothing; or it was closed with a pass of each caller, each given back, with this one as it stands, and this is what it held
-abbrev pub TellsCensus : Hand → Counted → Counted → Type 0
-TellsCensus hand before after =
-    (after ≡ before)
-    ⊎ ((c : ClosedFields) × IsClosedWhole (heap_of hand) hand.cache.pass c × (after.counted ≡ true) × IsCountOf c after)
+-- what is told where the heap closed: what it held; and else nothing
+abbrev pub Tells : End → Counted → Counted → Type 0
+Tells (end.Closed c) before after = (after.counted ≡ true) × IsCountOf c after
+Tells ended before after = after ≡ before
+
+-- what came of the heap, and what is told of it: nothing only where passes were to be counted behind this one, or it wasn't given back, or words are out, or there was no memory; else the heap was closed with a pass of each caller, each given back, with this one as it stands
+abbrev pub TellsCensus : Hand → Left → Counted → Counted → Type 0
+TellsCensus hand left before after =
+    HasLeft hand.heap hand.ticket.caller hand.cache.pass left.receipt.value left.end × Tells left.end before after
 
 -- a census that tells nothing
 abbrev pub untold : Counted → Counted
@@ -124,7 +127,7 @@ Outs = ℕ × ℕ × Counted
 abbrev pub Shuts : Result (Unit {0}) Refusal → Hand → Outs → Outs → Option Hand → Type 0
 Shuts (Ok done) hand before told after =
     (told.0 ≡ hand.cache.pass.errand.won) × (told.1 ≡ hand.cache.pass.errand.lost) × (after ≡ None)
-    × TellsCensus hand (untold before.2) told.2
+    × (left : Left) × TellsCensus hand left (untold before.2) told.2
 Shuts (Err cause) hand before told after =
     (told.0 ≡ before.0) × (told.1 ≡ before.1) × (after ≡ Some hand) × (told.2 ≡ untold before.2)
 

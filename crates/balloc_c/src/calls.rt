@@ -31,27 +31,9 @@ use live_heap::plain::Memory;
 /// How many lost exchanges interrupt a call.
 pub const TRIES: u32 = 1000;
 
-/// An allocation of so many usable words. Answers the block's number. Where a magazine and a slot stand ready it is made here,
-/// with no call; else by a function of its own, so that what that needs costs nothing here.
-#[inline(always)]
-pub fn alloc(heap: &Heap, cache: &mut Cache, table: &mut Table, words: u32) -> Result<u64, Refusal>
-    requires tends { Tends heap.now cache.old table.old.slots.items }
-    requires packed { IsPacked table.old }
-    ensures tends { Tends heap.now cache.new table.new.slots.items }
-    ensures packed { IsPacked table.new }
-    ensures few { HasOneMoreAtMost table.old table.new }
-    ensures answers { HasAllocated cache.old table.old words result cache.new table.new }
-{
-    if is_ready(cache, table, words) {
-        alloc_here(heap, cache, table, words)
-    } else {
-        alloc_away(heap, cache, table, words)
-    }
-}
-
 /// Whether no call is under way, a magazine has a block for so many words, and a slot stands ready for that.
 #[inline(always)]
-fn is_ready(cache: &Cache, table: &Table, words: u32) -> bool
+pub fn is_ready(cache: &Cache, table: &Table, words: u32) -> bool
     requires { (h : HeapFields) × IsCache h cache.now }
     ensures { result ≡ true → IsIdle cache.now.pass.errand }
 {
@@ -61,22 +43,9 @@ fn is_ready(cache: &Cache, table: &Table, words: u32) -> bool
     }
 }
 
-/// The same allocation, apart from who makes it.
-#[inline(never)]
-fn alloc_away(heap: &Heap, cache: &mut Cache, table: &mut Table, words: u32) -> Result<u64, Refusal>
-    requires tends { Tends heap.now cache.old table.old.slots.items }
-    requires packed { IsPacked table.old }
-    ensures tends { Tends heap.now cache.new table.new.slots.items }
-    ensures packed { IsPacked table.new }
-    ensures few { HasOneMoreAtMost table.old table.new }
-    ensures answers { HasAllocated cache.old table.old words result cache.new table.new }
-{
-    alloc_here(heap, cache, table, words)
-}
-
-/// The same allocation.
+/// An allocation of so many usable words. Answers the block's number.
 #[inline(always)]
-fn alloc_here(heap: &Heap, cache: &mut Cache, table: &mut Table, words: u32) -> Result<u64, Refusal>
+pub fn alloc(heap: &Heap, cache: &mut Cache, table: &mut Table, words: u32) -> Result<u64, Refusal>
     requires tends { Tends heap.now cache.old table.old.slots.items }
     requires packed { IsPacked table.old }
     ensures tends { Tends heap.now cache.new table.new.slots.items }

@@ -12,25 +12,23 @@ use crate::counted::Counted;
 use crate::handed::Handed;
 use crate::refusal::Refusal;
 use crate::table::Table;
-use crate::{calls, lending, ranges};
+use crate::{calls, code_with, lending, ranges};
 use block_cache::cache::Cache;
-use shared_heap::shared::{Left, Receipt, SharedHeap, Ticket};
+use shared_heap::shared::{End, Left, SharedHeap, Ticket};
 use std::alloc::Global;
-use std::snapshot::Snapshot;
-use std::sync::Arc;
 
 /// A pass with its magazines, its share in the heap and its blocks. Magazines of depth 0 keep nothing: each call is
 /// the heap's.
 #[derive(Drop)]
 pub struct Hand {
-    heap: Arc<SharedHeap, Global>,
+    heap: SharedHeap,
     /// The right to give its pass back.
     ticket: Ticket,
     cache: Cache,
     table: Table,
     /// What keeps it apart from what lies behind it in memory: another pass's magazines, which its own thread writes.
     rest: [u64; 16],
-    ghost is_tended: { ∥ Tends (arc_value heap).heap cache table.slots.items × IsPacked table × IsTicketOf (arc_value heap) ticket.caller ticket ∥₁ },
+    ghost is_tended: { ∥ Tends (arc_value heap.heap) cache table.slots.items × IsPacked table × IsTicketOf heap ticket.caller ticket ∥₁ },
 }
 
 impl Hand {
@@ -42,19 +40,13 @@ impl Hand {
     ghost use Rattle.balloc_c.specs.Numbers.{named};
     ghost use Rattle.balloc_c.specs.declared.refusal.Refusal.{Refusal};
     ghost use Rattle.balloc_c.specs.declared.refusal.Refusal.TheVariants as refusal;
-    ghost use Rattle.balloc_c.specs.Codes.{code_of, value_in, word_in, word_of};
+    ghost use Rattle.balloc_c.specs.Codes.{code_in, code_of, value_in, word_in, word_of};
 
     /// A pass with no block, and no slot for one, which keeps memory of so many of a class.
-    pub fn new(
-        alloc: Global,
-        heap: Arc<SharedHeap, Global>,
-        ticket: Ticket,
-        cache: Cache,
-        depth: u8,
-    ) -> Hand
-        requires tends { Tends (arc_value heap).heap cache [] }
-        requires ticket { IsTicketOf (arc_value heap) ticket.caller ticket }
-        ensures parts { (arc_value result.heap ≡ arc_value heap) × (result.cache ≡ cache) × (result.ticket ≡ ticket) }
+    pub fn new(alloc: Global, heap: SharedHeap, ticket: Ticket, cache: Cache, depth: u8) -> Hand
+        requires tends { Tends (arc_value heap.heap) cache [] }
+        requires ticket { IsTicketOf heap ticket.caller ticket }
+        ensures parts { (result.heap ≡ heap) × (result.cache ≡ cache) × (result.ticket ≡ ticket) }
         ensures bare { result.table.slots.items ≡ [] }
         ensures rooms { (class : ℕ) → class < CLASSES → room_of result.table class ≡ depth }
     {
@@ -72,12 +64,35 @@ impl Hand {
         ensures { IsTended self.now }
     {}
 
-    /// An allocation of so many usable words. Answers the block's number.
-    pub fn alloc(&mut self, words: u32) -> Result<u64, Refusal>
-        ensures { Makes (λ c t. HasAllocated c t words) self.old result self.new }
+    /// An allocation of so many usable words. Tells the block's number. Where a magazine and a slot stand ready it is made
+    /// here, with no call; else by a function of its own, so that what that needs costs nothing here.
+    #[inline(always)]
+    pub fn alloc(&mut self, words: u32, id: &mut u64) -> i32
+        ensures { (outcome : Result ℕ Refusal) × (result ≡ code_in outcome) × (id.new ≡ value_in outcome id.old)
+            × Makes (λ c t. HasAllocated c t words) self.old outcome self.new }
     {
         self.tended();
-        calls::alloc(self.heap.heap(), &mut self.cache, &mut self.table, words)
+        if calls::is_ready(&self.cache, &self.table, words) {
+            code_with(
+                calls::alloc(self.heap.heap(), &mut self.cache, &mut self.table, words),
+                id,
+            )
+        } else {
+            self.alloc_away(words, id)
+        }
+    }
+
+    /// The same allocation, apart from who makes it.
+    #[inline(never)]
+    fn alloc_away(&mut self, words: u32, id: &mut u64) -> i32
+        ensures { (outcome : Result ℕ Refusal) × (result ≡ code_in outcome) × (id.new ≡ value_in outcome id.old)
+            × Makes (λ c t. HasAllocated c t words) self.old outcome self.new }
+    {
+        self.tended();
+        code_with(
+            calls::alloc(self.heap.heap(), &mut self.cache, &mut self.table, words),
+            id,
+        )
     }
 
     /// An allocation of so many bytes, whose memory goes out: what the pass keeps, or a block's. Tells the block's number.
@@ -173,10 +188,11 @@ impl Hand {
         }
     }
 
-    /// Gives its pass back. Where it was the last one of the heap, the heap closes, and what it holds is told.
-    pub fn end(self, alloc: Global, counted: &mut Counted) -> Snapshot<Option<Receipt>>
-        ensures given { GivesBack self result.value }
-        ensures census { TellsCensus self counted.old counted.new }
+    /// Gives its pass back. Where it is the last one of the heap's that is given back, the heap closes, and what it holds
+    /// is told.
+    pub fn end(self, alloc: Global, counted: &mut Counted) -> Left
+        ensures given { GivesBack self result.receipt.value }
+        ensures census { TellsCensus self result counted.old counted.new }
     {
         self.tended();
         let Hand {
@@ -186,11 +202,11 @@ impl Hand {
             table: _,
             rest: _,
         } = self;
-        let Left { receipt, closed } = SharedHeap::leave(heap, alloc, ticket, cache.leave());
-        if let Some(closed) = closed {
-            counted.tell(&closed);
+        let left = heap.leave(alloc, ticket, cache.leave());
+        if let End::Closed(closed) = &left.end {
+            counted.tell(closed);
         }
-        receipt
+        left
     }
 
     /// Goes on with the call that was interrupted. Answers the number of a block that it got.

@@ -252,7 +252,10 @@ pub extern "C" fn balloc_alloc_words(pass: &mut PassHandle, words: u32, id: &mut
     ensures told { Told (Makes (λ c t. HasAllocated c t words)) pass.old.held.hand
         (λ outcome. (result ≡ code_in outcome) × (id.new ≡ value_in outcome id.old)) pass.new.held.hand }
 {
-    answered!(pass, hand => hand.alloc(words), outcome => code_with(outcome, id))
+    match pass.hand() {
+        Some(hand) => hand.alloc(words, id),
+        None => Refusal::Closed.code(),
+    }
 }
 
 /// Goes on with a call that was interrupted, and tells the number of the block that it got.

@@ -18,7 +18,6 @@ use live_heap::laws::blocks::passes_hold_exactly;
 use live_heap::pass::Pass;
 use shared_heap::shared::SharedHeap;
 use std::alloc::{AllocError, Global};
-use std::sync::Arc;
 
 /// A magazine has room for so many blocks at most.
 const DEEPEST: u32 = 64;
@@ -96,11 +95,10 @@ fn give_all(
     ensures { IfOk result (λ _. (h : HeapFields) × (h.layout ≡ geometry) × HoldNew h depth geometry.callers passes.new) }
 {
     let (heap, made) = Heap::open(alloc, geometry)?;
-    let (shared, mut dealer) = SharedHeap::new(alloc, heap)?;
-    let heap = Arc::new(alloc, shared)?;
+    let (heap, mut dealer) = SharedHeap::new(alloc, heap)?;
     let mut number = 0;
     for pass in made {
-        let share = Arc::try_clone(&heap)?;
+        let share = heap.share()?;
         let own = heap.heap();
         let cache = cached(alloc, own, pass, depth)?;
         let ticket = heap.ticket(&mut dealer);

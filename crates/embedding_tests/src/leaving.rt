@@ -7,13 +7,11 @@ ghost use Rattle.live_heap.specs.Passes.{AreFrom, IsOf};
 use crate::expect::expect;
 use heap_geometry::geometry::Geometry;
 use heap_scripts::alone::geometry;
-use live_heap::closed::Closed;
 use live_heap::heap::Heap;
 use live_heap::pass::Pass;
-use shared_heap::shared::SharedHeap;
+use shared_heap::shared::{End, SharedHeap};
 use std::alloc::{AllocError, Global};
 use std::process::Abort;
-use std::sync::Arc;
 use std::test::Fail;
 
 /// The two passes of a heap of two callers.
@@ -26,10 +24,18 @@ fn both(mut passes: Vec<Pass>) -> Option<(Pass, Pass)>
 }
 
 /// Whether a heap with these numbers was closed.
-fn is_closed(closed: Option<Closed>, numbers: Geometry) -> bool {
-    match closed {
-        Some(closed) => closed.geometry() == numbers,
-        None => false,
+fn is_closed(end: End, numbers: Geometry) -> bool {
+    match end {
+        End::Closed(closed) => closed.geometry() == numbers,
+        _ => false,
+    }
+}
+
+/// Whether passes are to be given back yet.
+fn is_before_others(end: End) -> bool {
+    match end {
+        End::Others => true,
+        _ => false,
     }
 }
 
@@ -40,15 +46,14 @@ fn leave<R: Abort>(rt: &R, alloc: Global) -> Result<(), AllocError> {
     let Some((first, second)) = both(passes) else {
         panic!(rt; "there is no pass for each caller");
     };
-    let (shared, mut dealer) = SharedHeap::new(alloc, heap)?;
-    let share = Arc::new(alloc, shared)?;
-    let other = Arc::try_clone(&share)?;
+    let (share, mut dealer) = SharedHeap::new(alloc, heap)?;
+    let other = share.share()?;
     let first_ticket = share.ticket(&mut dealer);
     let second_ticket = share.ticket(&mut dealer);
-    let left = SharedHeap::leave(other, alloc, first_ticket, first);
-    expect(rt, left.closed.is_none(), 0);
-    let left = SharedHeap::leave(share, alloc, second_ticket, second);
-    expect(rt, is_closed(left.closed, numbers), 1);
+    let left = other.leave(alloc, first_ticket, first);
+    expect(rt, is_before_others(left.end), 0);
+    let left = share.leave(alloc, second_ticket, second);
+    expect(rt, is_closed(left.end, numbers), 1);
     Ok(())
 }
 

@@ -2,15 +2,13 @@
 use Rattle.std.proofs.Common.{ℕ, ◌≡◌, ◌∷◌, ◌++◌, List, [], refl, sym, ap, ◌∙◌, subst, append_assoc}
 use Rattle.std.proofs.lemmas.List.{map-append}
 use Rattle.errand_steps.specs.declared.reply.Reply.TheVariants as reply
-use Rattle.errand_steps.specs.Begins.{IsIdle}
 use Rattle.errand_steps.specs.Calls.{free}
 use Rattle.sound_laws.specs.events.Made.{LeadsBy, answered}
 use Rattle.live_heap.specs.declared.answers.Resumed.{Resumed}
 use Rattle.live_heap.specs.declared.block.Block.{Block}
 use Rattle.live_heap.specs.Heaps.{HeapFields}
 use Rattle.live_heap.specs.declared.pass.Pass.{Pass}
-use Rattle.live_heap.specs.Passes.{IsOf}
-use Rattle.live_heap.specs.Whole.{ResumesTo}
+use Rattle.live_heap.specs.Whole.{IsAtRest, ResumesTo}
 use Rattle.block_cache.specs.declared.cache.Cache.{Cache}
 use Rattle.block_cache.specs.declared.magazines.Magazines.{Magazines}
 use Rattle.block_cache.specs.Caches.{KeepsMagazines, cached_in, stacks_in}
@@ -18,7 +16,7 @@ use Rattle.block_cache.specs.Flushes.{Frees, HasStopped}
 use Rattle.block_cache.specs.Magazines.{leaving, stacks_of}
 use Rattle.block_cache.specs.Whole.{RestsAt}
 use Rattle.lane_engine.specs.Caches.{HasEmptied, HasEndedAt, frees_of}
-use Rattle.lane_engine.proofs.LeadsLemmas.{leads-then}
+use Rattle.lane_engine.proofs.LeadsLemmas.{leads-of, leads-then}
 use Rattle.lane_engine.proofs.ThroughLemmas.{free-resumes}
 
 -- some of the blocks of the magazines were freed, and the others are left
@@ -85,12 +83,8 @@ empties-stopped h c now mid d tries told so stopped hits keeps rests resumes =
       hits = keeps.hits ∙ (hits ∙ so.hits);
     }
 
--- the pass that has freed them is of the heap, as it was
-pub frees-of : (h : HeapFields) (p q : Pass) (blocks : List Block) (tries : ℕ) → IsOf h p → Frees h p blocks tries q → IsOf h q
-frees-of h p q [] tries was frees = subst (IsOf h) (sym frees) was
-frees-of h p q (block ∷ blocks) tries was (next, of, tells, frees) = frees-of h next q blocks tries of frees
-
--- the pass that has freed them is in no call, if it was in none
-pub frees-idle : (h : HeapFields) (p q : Pass) (blocks : List Block) (tries : ℕ) → IsIdle p.errand → Frees h p blocks tries q → IsIdle q.errand
-frees-idle h p q [] tries idle frees = subst (λ (r : Pass). IsIdle r.errand) (sym frees) idle
-frees-idle h p q (block ∷ blocks) tries idle (next, of, tells, frees) = frees-idle h next q blocks tries tells.called.idle frees
+-- the pass that has freed them is of the heap and in no call, if it was so
+pub frees-rest : (h : HeapFields) (p q : Pass) (blocks : List Block) (tries : ℕ) → IsAtRest h p → Frees h p blocks tries q → IsAtRest h q
+frees-rest h p q blocks tries rests frees =
+    (leads-of (HasEndedAt h) (HasEndedAt h) (λ x. x) (IsAtRest h) (λ s t call answer is one. (one, one.1)) (frees_of blocks) p q rests
+    (frees-lead h p q blocks tries frees)).1

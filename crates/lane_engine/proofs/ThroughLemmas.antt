@@ -2,6 +2,7 @@
 use Rattle.std.proofs.Common.{ℕ, ◌≡◌, List, refl, sym, ap, ◌∙◌}
 use Rattle.std.proofs.lemmas.Option.{none-some}
 use Rattle.heap_geometry.specs.declared.need.Need.{Need}
+use Rattle.errand_steps.specs.declared.reply.Reply.{Reply}
 use Rattle.errand_steps.specs.declared.reply.Reply.TheVariants as reply
 use Rattle.errand_steps.specs.Begins.{IsIdle}
 use Rattle.errand_steps.specs.Calls.{Call, alloc, free}
@@ -14,15 +15,17 @@ use Rattle.live_heap.specs.declared.answers.FreeAnswer.TheVariants as free_answe
 use Rattle.live_heap.specs.declared.answers.Resumed.{Resumed}
 use Rattle.live_heap.specs.declared.answers.Resumed.TheVariants as resumed
 use Rattle.live_heap.specs.declared.block.Block.{Block}
+use Rattle.live_heap.specs.Heaps.{HeapFields}
 use Rattle.live_heap.specs.declared.pass.Pass.{Pass}
 use Rattle.live_heap.specs.Answers.{ResumeTells}
 use Rattle.live_heap.specs.Whole.{HasEndedCall, ResumesTo}
 use Rattle.block_cache.specs.declared.cache.Cache.{Cache}
 use Rattle.block_cache.specs.declared.magazines.Magazines.{Magazines}
-use Rattle.block_cache.specs.Caches.{HasFor, HasKept, HasRoom, HasServed, KeepsMagazines}
-use Rattle.block_cache.specs.Whole.{IsWholeOnWord}
+use Rattle.block_cache.specs.Caches.{HasFor, HasKept, HasRoom, HasServed, IsCache, KeepsMagazines}
+use Rattle.block_cache.specs.Whole.{Asks, IsWholeOnWord, RestsAt}
+use Rattle.block_cache.proofs.WholeLemmas.{asked-whole}
 use Rattle.lane_engine.specs.declared.over_cache.CachedCalls.{CachedCalls}
-use Rattle.lane_engine.specs.Caches.{cache_maker}
+use Rattle.lane_engine.specs.Caches.{IsCachedCall, cache_maker}
 use Rattle.lane_engine.proofs.LeadsLemmas.{leads-of}
 
 -- a resumed call that isn't told to be busy has ended
@@ -67,6 +70,13 @@ keeps-depth c d keeps = ap (λ (m : Magazines Block). m.depth) keeps.magazines
 
 pub keeps-on : (c d e : Cache) → KeepsMagazines c d → KeepsMagazines d e → KeepsMagazines c e
 keeps-on c d e one two = record { magazines = two.magazines ∙ one.magazines; hits = two.hits ∙ one.hits }
+
+-- a call of the heap that was interrupted, and has gone on to its end, is one through the cache
+pub resumed-call :
+    (h : HeapFields) (c mid d : Cache) (call : Call) (answer : Reply) → RestsAt h c → IsCache h d → Asks c call
+    → HasEndedCall c.pass call answer d.pass → KeepsMagazines c mid → KeepsMagazines mid d → IsCachedCall h c call answer d
+resumed-call h c mid d call answer rests is asks ended one two =
+    let keeps = keeps-on c mid d one two in (asked-whole h c d call answer rests is asks ended keeps, keeps-depth c d keeps)
 
 -- the struct with its cache in this state
 abbrev pub with_cache : CachedCalls → Cache → CachedCalls

@@ -1,8 +1,9 @@
 -- How many blocks a magazine has, and how many operations magazines serve.
-use Rattle.std.proofs.Common.{ℕ, suc, ◌≡◌, ◌+◌, ◌≤◌, ◌<◌, ◌∷◌, List, [], Bool, true, false, Option, Some, None, length, set, refl, sym, ◌∙◌, ap, subst, inl, inr, arith, get_or-set_same, get_or-set_other}
+use Rattle.std.proofs.Common.{ℕ, suc, ◌≡◌, ◌+◌, ◌≤◌, ◌<◌, ◌∷◌, List, [], Bool, true, false, Option, Some, None, length, refl, ap, inl, inr, arith}
 use Rattle.std.specs.List.{All}
-use Rattle.std.proofs.lemmas.Bool.{cases_eq, cases_lt, ltb-true}
-use Rattle.std.proofs.lemmas.List.{get_or_default, set_past}
+use Rattle.std.proofs.lemmas.Bool.{cases_lt, ltb-true}
+use Rattle.std.proofs.lemmas.List.{get_or-replicate, get_or_past, length-replicate}
+use Rattle.std.proofs.lemmas.List.Elements.{All-set}
 use Rattle.heap_geometry.specs.declared.geometry.Geometry.{Geometry}
 use Rattle.heap_geometry.specs.declared.limits.TheConstants.{CLASSES}
 use Rattle.heap_geometry.specs.declared.need.Need.{Need}
@@ -16,30 +17,20 @@ use Rattle.lane_outcomes.specs.Lane.{held_in}
 use Rattle.lane_outcomes.specs.LaneCounts.{as_one, count_with, lane_given, lanes_given}
 use Rattle.lane_outcomes.specs.Rows.{Setting}
 use Rattle.lane_outcomes.specs.Cached.{CachedFits, CachedLanesFit, CachedPosition, CachedWalks, cached_after, cached_start, hit_of, magazines_by, served_with}
-use Rattle.lane_outcomes.specs.Magazines.{empty_magazines, given_from, is_kept, kept_with, magazine_of, magazines_freed, magazines_given, others_in, served_by}
-use Rattle.lane_outcomes.proofs.RoomLemmas.{none-in}
+use Rattle.lane_outcomes.specs.Magazines.{given_from, is_kept, kept_with, magazine_of, magazines_freed, magazines_given, others_in, served_by}
+use Rattle.lane_outcomes.proofs.LanesLemmas.{walk-kept}
 use Rattle.lane_outcomes.specs.Deeds.{Deed, deed_of, given_by, register_of}
 use Rattle.lane_outcomes.specs.Deeds as deed
 
 -- no magazine has more blocks than the depth
 abbrev IsShallow : ℕ → List (List ℕ) → Type 0
-IsShallow depth magazines = (class : ℕ) → length (magazine_of magazines class) ≤ depth
+IsShallow depth magazines = All (λ places. length places ≤ depth) magazines
 
-shallow-set :
-    (depth : ℕ) (magazines : List (List ℕ)) (class : ℕ) (places : List ℕ) → length places ≤ depth → IsShallow depth magazines
-    → IsShallow depth (set magazines class places)
-shallow-set depth magazines class places few shallow other =
-    elim (cases_eq other class) [
-      | inl same ↦ elim (cases_lt class (length magazines)) [
-        | inl within ↦
-            let there : magazine_of (set magazines class places) other ≡ places =
-            ap (magazine_of (set magazines class places)) same ∙ get_or-set_same magazines class places [] within in
-            omega (arith, ap length there)
-        | inr past ↦ subst (λ (xs : List (List ℕ)). length (magazine_of xs other) ≤ depth) (sym (set_past magazines class places past)) (shallow other)
-      ]
-      | inr apart ↦
-          let there : magazine_of (set magazines class places) other ≡ magazine_of magazines other = get_or-set_other magazines class other places [] apart in
-          omega (arith, ap length there, shallow other)
+magazine-few : (depth : ℕ) (magazines : List (List ℕ)) (class : ℕ) → IsShallow depth magazines → length (magazine_of magazines class) ≤ depth
+magazine-few depth magazines class shallow =
+    elim (cases_lt class (length magazines)) [
+      | inl within ↦ shallow class [] within
+      | inr past ↦ let none = ap length (get_or_past magazines class [] past) in omega (arith, none)
     ]
 
 others-fewer : (places : List ℕ) → length (others_in places) ≤ length places
@@ -49,8 +40,8 @@ others-fewer (place ∷ places) = omega arith
 shallow-given : (depth : ℕ) (served : Option ℕ) (magazines : List (List ℕ)) (need : Need) → IsShallow depth magazines → IsShallow depth (given_from served magazines need)
 shallow-given depth None magazines need shallow = shallow
 shallow-given depth (Some place) magazines (Small class) shallow =
-    shallow-set depth magazines class (others_in (magazine_of magazines class))
-    (omega (arith, others-fewer (magazine_of magazines class), shallow class)) shallow
+    All-set (λ places. length places ≤ depth) magazines class (others_in (magazine_of magazines class))
+    (omega (arith, others-fewer (magazine_of magazines class), magazine-few depth magazines class shallow)) shallow
 shallow-given depth (Some place) magazines (Large units) shallow = shallow
 shallow-given depth (Some place) magazines TooLarge shallow = shallow
 
@@ -59,7 +50,7 @@ shallow-kept :
     → IsShallow depth (kept_with keeps magazines place need)
 shallow-kept depth true magazines place (Small class) keeps shallow =
     let room : length (magazine_of magazines class) < depth = ltb-true _ _ keeps in
-    shallow-set depth magazines class (place ∷ magazine_of magazines class) (omega (arith, room)) shallow
+    All-set (λ places. length places ≤ depth) magazines class (place ∷ magazine_of magazines class) (omega (arith, room)) shallow
 shallow-kept depth true magazines place (Large units) keeps shallow = shallow
 shallow-kept depth true magazines place TooLarge keeps shallow = shallow
 shallow-kept depth false magazines place need keeps shallow = shallow
@@ -80,22 +71,15 @@ shallow-after depth magazines held (deed.replaces need words place) shallow =
     (shallow-given depth (served_by magazines (need_of need)) magazines (need_of need) shallow)
 shallow-after depth magazines held done shallow = shallow
 
-shallow-walk :
-    (setting : Setting) (depth : ℕ) (from to : CachedPosition) (operations : List Op) (results : List Outcome)
-    → CachedWalks setting depth from operations results to → IsShallow depth from.magazines → IsShallow depth to.magazines
-shallow-walk setting depth from to [] [] walks shallow = rw walks shallow
-shallow-walk setting depth from to (operation ∷ operations) (result ∷ results) walks shallow =
-    shallow-walk setting depth (cached_after depth from operation result walks.0) to operations results walks.2
-    (shallow-after depth from.magazines (held_in from.base.registers (register_of operation)) (deed_of operation result) shallow)
-shallow-walk setting depth from to operations results walks shallow = absurd walks
-
 pub walk-shallow :
     (setting : Setting) (depth : ℕ) (operations : List Op) (results : List Outcome) (position : CachedPosition)
     → CachedWalks setting depth cached_start operations results position → All (λ magazine. length magazine ≤ depth) position.magazines
-walk-shallow setting depth operations results position walks class d below =
-    let empty : IsShallow depth empty_magazines = λ other. omega (arith, ap length (none-in CLASSES other)) in
-    let shallow = shallow-walk setting depth cached_start position operations results walks empty class in
-    omega (arith, shallow, ap length (get_or_default position.magazines class d [] below))
+walk-shallow setting depth operations results position walks =
+    let none : List ℕ = [] in
+    walk-kept setting depth (λ at. IsShallow depth at.magazines)
+    (λ at operation result piece row. shallow-after depth at.magazines (held_in at.base.registers (register_of operation)) (deed_of operation result))
+    cached_start position operations results walks
+    (λ class d below. omega (arith, ap length (get_or-replicate CLASSES class none d (omega (arith, below, length-replicate CLASSES none)))))
 
 hit-one : (served : Option ℕ) → hit_of served ≤ 1
 hit-one None = omega arith

@@ -1,5 +1,5 @@
 -- Along a lane's operations through a cache the blocks in its registers and in its magazines have all their words written.
-use Rattle.std.proofs.Common.{ℕ, ◌≡◌, ◌<◌, ◌+◌, List, [], ◌∷◌, ◌++◌, Option, Some, length, get_or, refl, sym, ◌∙◌, ap, subst, inl, inr, arith, append_assoc, append-nil, length-append}
+use Rattle.std.proofs.Common.{ℕ, ◌≡◌, ◌<◌, ◌+◌, List, [], ◌∷◌, ◌++◌, Option, Some, length, get_or, refl, sym, ◌∙◌, ap, subst, inl, inr, arith, append_assoc, length-append}
 use Rattle.std.specs.Prelude.{flat_map}
 use Rattle.std.specs.List.{AllByRecursion}
 use Rattle.std.proofs.lemmas.Bool.{cases_lt}
@@ -16,28 +16,19 @@ use Rattle.lane_outcomes.specs.declared.registers.HeldBlock.{HeldBlock}
 use Rattle.lane_outcomes.specs.declared.outcome.Outcome.{Outcome}
 use Rattle.lane_outcomes.specs.declared.outcome.Outcome.TheVariants as outcome
 use Rattle.lane_outcomes.specs.Cached.{CachedOutcomesFit, CachedPosition, CachedRow, CachedWalks, cached_after, cached_start}
-use Rattle.lane_outcomes.specs.Lane.{writing}
+use Rattle.lane_outcomes.specs.Lane.{held_in, writing}
 use Rattle.lane_outcomes.specs.Magazines.{emptying, freeing, is_kept, kept_from, magazines_given}
 use Rattle.lane_outcomes.specs.Rows.{IsWord, Moment, Setting}
 use Rattle.lane_outcomes.specs.Standing.{setting_in}
 use Rattle.lane_outcomes.specs.Written.{HoldsWritten, ShelvesWritten, SumsWritten}
 use Rattle.lane_outcomes.specs.WrittenThrough.{CopiesWrittenThrough}
 use Rattle.lane_outcomes.proofs.CachedLemmas.{lane-holds}
-use Rattle.lane_outcomes.proofs.LanesLemmas.{cached-lane}
+use Rattle.lane_outcomes.proofs.LanesLemmas.{cached-lane, walk-adds}
+use Rattle.lane_outcomes.proofs.WalkLemmas.{all-frees}
 use Rattle.lane_outcomes.proofs.SlotLemmas.{slot-held, slots}
-use Rattle.lane_outcomes.proofs.WrittenBlocks.{AllFill, FillsAll, from-append, no_part, own-written, part_at, part_behind, shelves-written}
-use Rattle.lane_outcomes.proofs.WrittenLemmas.{check-at, copied-word, one-of, writes-same}
-use Rattle.lane_outcomes.proofs.WrittenRows.{filled-frees, walk-filled}
-
--- a walk through a cache only adds events to those of the lane
-cached-adds :
-    (setting : Setting) (depth : ℕ) (from to : CachedPosition) (operations : List Op) (results : List Outcome)
-    → CachedWalks setting depth from operations results to → (more : List Event) × (to.base.done ≡ from.base.done ++ more)
-cached-adds setting depth from to [] [] walks = ([], ap (λ (p : CachedPosition). p.base.done) walks ∙ sym (append-nil from.base.done))
-cached-adds setting depth from to (operation ∷ operations) (result ∷ results) (piece, row, walks) =
-    let later = cached-adds setting depth (cached_after depth from operation result piece) to operations results walks in
-    (piece ++ later.0, later.1 ∙ append_assoc from.base.done piece later.0)
-cached-adds setting depth from to operations results walks = absurd walks
+use Rattle.lane_outcomes.proofs.WrittenBlocks.{AllFill, FillsAll, IsNoAlloc, from-append, no_part, own-written, part_at, part_behind, shelves-written}
+use Rattle.lane_outcomes.proofs.WrittenLemmas.{check-sum, copied-word, one-of, writes-same}
+use Rattle.lane_outcomes.proofs.WrittenRows.{filled-all, walk-filled}
 
 module _ (g : Geometry) (history : List Event) (lost depth : ℕ) (lanes : List (List Op)) (outcomes : List (List Outcome)) (hits : ℕ) (legal : IsLegalWithoutCounts g history) (fit : CachedOutcomesFit g history lost depth lanes outcomes hits) where
   -- whoever makes an event is a lane, and fills its blocks
@@ -52,7 +43,8 @@ module _ (g : Geometry) (history : List Event) (lost depth : ℕ) (lanes : List 
       fits.walks (tt, refl) in
       subst (FillsAll no_part) (sym fits.all_used)
       (from-append no_part fits.end.base.done (emptying caller fits.end.magazines) filled
-      (filled-frees caller (flat_map (λ magazine. magazine) fits.end.magazines))).0
+      (filled-all (emptying caller fits.end.magazines)
+      (all-frees IsNoAlloc caller (flat_map (λ magazine. magazine) fits.end.magazines) (λ place. tt)))).0
 
   pub shelved-through : (before : List Event) → Begins before history → ShelvesWritten (pool_of before)
   shelved-through = shelves-written g history legal all-fill
@@ -130,7 +122,7 @@ module _ (g : Geometry) (history : List Event) (lost depth : ℕ) (lanes : List 
       let cut = (lane-cut lane earlier later results more (op.Check r) (outcome.Sum total) operations_are results_are same).1 in (
         cut.at,
         cut.walks,
-        check-at (setting_in history lane g.turn_limit lost) cut.at.base r total cut.piece
+        check-sum (setting_in history lane g.turn_limit lost) cut.at.base r total cut.piece (held_in cut.at.base.registers r) refl
             (registers-written lane g.turn_limit lost earlier results cut.at cut.walks) cut.row,
       )
 
@@ -145,7 +137,7 @@ module _ (g : Geometry) (history : List Event) (lost depth : ℕ) (lanes : List 
       let at = cut.at in
       let (held, full, differ, words_are, calls, given, value, copy, is) = cut.row in
       let next = cached_after depth at (op.Resize r need) (outcome.Resized words place) cut.piece in
-      let adds = cached-adds setting depth next end later more cut.rest in
+      let adds = walk-adds setting depth next end later more cut.rest in
       let rest : List Event = adds.0 ++ emptying lane end.magazines in
       let all_own : own lane history ≡ (at.base.done ++ cut.piece) ++ rest =
       used ∙ ap (λ es. es ++ emptying lane end.magazines) adds.1 ∙ append_assoc (at.base.done ++ cut.piece) adds.0 (emptying lane end.magazines) in

@@ -7,7 +7,6 @@ use Rattle.heap_geometry.specs.declared.need.Need.{Need}
 use Rattle.heap_geometry.specs.declared.need.Need.TheVariants.{Small, Large, TooLarge}
 use Rattle.heap_geometry.specs.Need.{IsNeed, need_of, usable_words}
 use Rattle.pool_model.specs.declared.event.Event.{Event}
-use Rattle.pool_model.specs.Histories.{Begins}
 use Rattle.pool_model.specs.Legal.{IsLegalWithoutCounts}
 use Rattle.pool_model.specs.Pool.{pool_of}
 use Rattle.pool_model.proofs.NeedOfLemmas.{need_of-within}
@@ -20,10 +19,11 @@ use Rattle.lane_outcomes.specs.Magazines.{kept_from}
 use Rattle.lane_outcomes.specs.Rows.{Setting}
 use Rattle.lane_outcomes.specs.Standing.{setting_in}
 use Rattle.lane_outcomes.proofs.CachedLemmas.{lane-keeps}
-use Rattle.lane_outcomes.proofs.KeepingLemmas.{amount, keeps-emptied}
+use Rattle.lane_outcomes.proofs.KeepingLemmas.{keeps-emptied}
+use Rattle.lane_outcomes.proofs.FollowLemmas.{amount, freed_by, given_to}
 use Rattle.lane_outcomes.proofs.KeptLemmas.{kept-emptied}
 use Rattle.lane_outcomes.proofs.MeasureLemmas.{free_at, give_at, measure, measured}
-use Rattle.lane_outcomes.proofs.TallyLemmas.{of_caller, partition, sum_from, tally}
+use Rattle.lane_outcomes.proofs.TallyLemmas.{partition, sum_from}
 use Rattle.lane_outcomes.proofs.SlotRows.{Adds, row-adds}
 use Rattle.lane_outcomes.specs.Deeds.{Deed, deed_of, given_by, register_of}
 use Rattle.lane_outcomes.specs.Deeds as deed
@@ -52,13 +52,6 @@ pub record IsBalanced (f : ℕ → ℕ) (history : List Event) (lanes : List (Li
   pub total : measure f (pool_of history) + lanes_freed f lanes outcomes ≡ lanes_given f lanes outcomes
   pub few : lanes_given f lanes outcomes ≤ LARGE_MOST * 2 ^ 64 * MAX_LANES
 
--- what a caller's events gave and freed in a whole history
-abbrev given_to : (ℕ → ℕ) → List Event → ℕ → ℕ
-given_to f history caller = tally (of_caller caller (give_at f)) [] history
-
-abbrev freed_by : (ℕ → ℕ) → List Event → ℕ → ℕ
-freed_by f history caller = tally (of_caller caller (free_at f)) [] history
-
 -- a lane's outcomes and its events differ by what magazines served and kept, and of that nothing is left
 lane-balance :
     (f : ℕ → ℕ) (g : Geometry) (setting : Setting) (depth : ℕ) (operations : List Op) (results : List Outcome) (hits : ℕ)
@@ -67,13 +60,11 @@ lane-balance :
     ≡ lane_given f operations results + freed_by f setting.history setting.caller
 lane-balance f g setting depth operations results hits legal fits =
     let end : CachedPosition = fits.end in
-    let emptied = keeps-emptied f g setting.history setting.caller end.base.done (kept_from 0 end.magazines) end.base.registers _ _ legal
+    let emptied = keeps-emptied f g setting legal end.base.done (kept_from 0 end.magazines) end.base.registers _ _
     (lane-keeps f g setting depth operations results end legal fits.walks) in
-    let whole : Begins setting.history setting.history = ([], sym (append-nil setting.history)) in
     let all = fits.all_used ∙ ap (λ xs. end.base.done ++ xs) (sym (kept-emptied setting.caller 0 end.magazines)) in
-    let ended = emptied.at setting.history whole all in
     let none : amount f [] ≡ 0 = refl in
-    omega (arith, ended.given_is, ended.freed_is, emptied.balance setting.history whole all, none)
+    omega (arith, (emptied setting.history ([], sym (append-nil setting.history)) all).balance, none)
 
 -- each operation is given at most one block, of a need
 few-by :

@@ -17,11 +17,6 @@ pub record IsCounting (start now : Amount) (blocks_left words_left blocks words 
 pub counting-start : (start : Amount) (blocks words : ℕ) → IsCounting start start blocks words blocks words
 counting-start start blocks words = record { blocks_remain = refl; words_remain = refl }
 
-remain-more :
-    (old new more left less whole most : ℕ) → min new most ≡ min (old + more) most → left ≡ more + less → min (old + left) most ≡ whole
-    → min (new + less) most ≡ whole
-remain-more old new more left less whole most grown is so_far = omega arith
-
 pub counting-more :
     (start now next : Amount) (blocks_more words_more blocks_left words_left blocks_less words_less blocks words : ℕ)
     → IsCounting start now blocks_left words_left blocks words → GrowsBy now next blocks_more words_more
@@ -29,20 +24,17 @@ pub counting-more :
     → IsCounting start next blocks_less words_less blocks words
 counting-more start now next blocks_more words_more blocks_left words_left blocks_less words_less blocks words so_far grown blocks_is words_is =
     record {
-      blocks_remain = remain-more now.blocks next.blocks blocks_more blocks_left blocks_less _ _ grown.blocks_grow blocks_is so_far.blocks_remain;
-      words_remain = remain-more now.words next.words words_more words_left words_less _ _ grown.words_grow words_is so_far.words_remain;
+      blocks_remain = omega (arith, grown.blocks_grow, blocks_is, so_far.blocks_remain);
+      words_remain = omega (arith, grown.words_grow, words_is, so_far.words_remain);
     }
-
-remain-end : (now left whole most : ℕ) → left ≡ 0 → min (now + left) most ≡ whole → min now most ≡ whole
-remain-end now left whole most none so_far = omega arith
 
 pub counting-end :
     (start now : Amount) (blocks_left words_left blocks words : ℕ) → IsCounting start now blocks_left words_left blocks words
     → blocks_left ≡ 0 → words_left ≡ 0 → GrowsBy start now blocks words
 counting-end start now blocks_left words_left blocks words so_far no_blocks no_words =
     record {
-      blocks_grow = remain-end now.blocks blocks_left _ _ no_blocks so_far.blocks_remain;
-      words_grow = remain-end now.words words_left _ _ no_words so_far.words_remain;
+      blocks_grow = omega (arith, no_blocks, so_far.blocks_remain);
+      words_grow = omega (arith, no_words, so_far.words_remain);
     }
 
 -- nothing is given where the operations or the outcomes are at their end

@@ -1,5 +1,5 @@
 -- What the writes that fill a block do to a pool.
-use Rattle.std.proofs.Common.{ℕ, ◌+◌, ◌%◌, ◌^◌, List, map, refl, sym, ap, ◌∙◌, inl, inr}
+use Rattle.std.proofs.Common.{ℕ, List, map, refl, sym, ap, ◌∙◌, inl, inr}
 use Rattle.std.specs.List.{range_with_len}
 use Rattle.std.proofs.lemmas.Bool.{cases_eq}
 use Rattle.pool_model.specs.declared.event.Event.{Event}
@@ -8,14 +8,11 @@ use Rattle.pool_model.specs.Pool.{Pool, block_at, pool_after, written}
 use Rattle.pool_model.proofs.PoolLemmas.{block_at-changed_other, block_at-changed_same}
 use Rattle.lane_outcomes.specs.declared.registers.HeldBlock.{HeldBlock}
 use Rattle.lane_outcomes.specs.Standing.{OwnsHeld}
+use Rattle.lane_outcomes.proofs.HoldLemmas.{owns-on}
 
 -- writes of words from `first` on, each with its value
 abbrev pub writes_of : ℕ → ℕ → (ℕ → ℕ) → ℕ → ℕ → List Event
 writes_of caller place value first count = map (λ i. Write caller place i (value i)) (range_with_len first count)
-
--- writes of words from `first` on: word i with v + i
-abbrev pub writes : ℕ → ℕ → ℕ → ℕ → ℕ → List Event
-writes caller place v first count = writes_of caller place (λ i. (v + i) % 2 ^ 64) first count
 
 -- a caller's block is still its own after a write of some block, and has as many words
 pub owns-written :
@@ -30,11 +27,5 @@ owns-written pool caller held writer place i v h =
         need_is = h.need_is;
         words_are = h.words_are;
       }
-      | inr differ ↦ record {
-        block = h.block;
-        live = block_at-changed_other place held.place (written i v) pool (λ b. refl) differ ∙ h.live;
-        owned = h.owned;
-        need_is = h.need_is;
-        words_are = h.words_are;
-      }
+      | inr differ ↦ owns-on pool _ caller held h (block_at-changed_other place held.place (written i v) pool (λ b. refl) differ ∙ h.live)
     ]

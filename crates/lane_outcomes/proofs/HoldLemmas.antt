@@ -1,8 +1,7 @@
 -- What the registers of a lane hold, through each event of the lane.
-use Rattle.std.proofs.Common.{ℕ, zero, suc, replicate, ◌≡◌, ◌≢◌, ◌<◌, ◌∷◌, ◌++◌, List, [], Option, Some, None, length, refl, sym, ap, ◌∙◌, subst, inl, inr, get_or-set_same, get_or-set_other}
-use Rattle.std.specs.Prelude.{slice_set, ◌⊎◌}
-use Rattle.std.proofs.lemmas.Bool.{cases_eq, cases_lt}
-use Rattle.std.proofs.lemmas.List.{set_past, get_or_past}
+use Rattle.std.proofs.Common.{ℕ, zero, suc, replicate, ◌≡◌, ◌≢◌, ◌<◌, ◌∷◌, ◌++◌, List, [], Option, Some, None, length, refl, sym, ap, ◌∙◌, subst, inl, inr, arith}
+use Rattle.std.proofs.lemmas.Bool.{cases_lt}
+use Rattle.std.proofs.lemmas.List.{get_or_past}
 use Rattle.heap_geometry.specs.declared.geometry.Geometry.{Geometry}
 use Rattle.heap_geometry.specs.Need.{need_of, usable_words}
 use Rattle.pool_model.specs.declared.event.Event.{Event}
@@ -19,18 +18,8 @@ use Rattle.lane_outcomes.specs.declared.registers.HeldBlock.{HeldBlock}
 use Rattle.lane_outcomes.specs.Lane.{held_in}
 use Rattle.lane_outcomes.specs.Standing.{OwnsHeld, HoldsOwn}
 
--- a register that is set holds what it was set to, and the others hold what they held
-pub held-set :
-    (registers : List (Option HeldBlock)) (r q : ℕ) (held : Option HeldBlock) → r < length registers
-    → ((q ≡ r) × (held_in (slice_set registers r held) q ≡ held)) ⊎ ((q ≢ r) × (held_in (slice_set registers r held) q ≡ held_in registers q))
-held-set registers r q held within =
-    elim (cases_eq q r) [
-      | inl same ↦ inl (same, rw same (get_or-set_same registers r held None within))
-      | inr other ↦ inr (other, get_or-set_other registers r q held None other)
-    ]
-
 -- a block that was live before an allocation lies at another place
-pub fresh-differs :
+fresh-differs :
     (g : Geometry) (history : List Event) (caller need place other : ℕ) (block : Block)
     → IsLegalWithoutCounts g (history ++ Alloc caller need place ∷ []) → block_at other (pool_of history) ≡ Some block → other ≢ place
 fresh-differs g history caller need place other block legal found =
@@ -41,7 +30,7 @@ fresh-differs g history caller need place other block legal found =
     λ e. apart (sym (place-found other (pool_of history) block found ∙ e))
 
 -- the caller owns the block that it was given
-pub owns-fresh :
+owns-fresh :
     (history : List Event) (caller need place words : ℕ) → words ≡ usable_words (need_of need)
     → OwnsHeld (pool_of (history ++ Alloc caller need place ∷ [])) caller (record { place = place; words = words; need = need_of need })
 owns-fresh history caller need place words is =
@@ -55,52 +44,25 @@ owns-fresh history caller need place words is =
       words_are = is;
     }
 
--- a block at another place is still owned after an allocation, after a free, and after a block was handed over
-pub owns-past :
-    (history : List Event) (caller : ℕ) (held : HeldBlock) (giver need place : ℕ) → held.place ≢ place → OwnsHeld (pool_of history) caller held
-    → OwnsHeld (pool_of (history ++ Alloc giver need place ∷ [])) caller held
-owns-past history caller held giver need place differ h =
-    record {
-      block = h.block;
-      live =
-          rw (pool_of-push history (Alloc giver need place))
-          (block_at-past held.place (fresh_block giver need place) (pool_of history) (λ e. differ (sym e)) ∙ h.live);
-      owned = h.owned;
-      need_is = h.need_is;
-      words_are = h.words_are;
-    }
+-- a block that lies where it lay is still owned
+pub owns-on :
+    (old new : Pool) (caller : ℕ) (held : HeldBlock) (h : OwnsHeld old caller held) → block_at held.place new ≡ Some h.block → OwnsHeld new caller held
+owns-on old new caller held h live =
+    record { block = h.block; live = live; owned = h.owned; need_is = h.need_is; words_are = h.words_are }
 
-pub owns-freed :
-    (history : List Event) (caller : ℕ) (held : HeldBlock) (giver place : ℕ) → held.place ≢ place → OwnsHeld (pool_of history) caller held
-    → OwnsHeld (pool_of (history ++ Free giver place ∷ [])) caller held
-owns-freed history caller held giver place differ h =
-    record {
-      block = h.block;
-      live =
-          rw (pool_of-push history (Free giver place)) (block_at-without_other place held.place (pool_of history) differ ∙ h.live);
-      owned = h.owned;
-      need_is = h.need_is;
-      words_are = h.words_are;
-    }
-
-pub owns-handed :
+-- so it is after a block was handed over at another place
+owns-handed :
     (pool : Pool) (caller : ℕ) (held : HeldBlock) (place : ℕ) (to : Owner) → held.place ≢ place → OwnsHeld pool caller held
     → OwnsHeld (with_changed place (handed_to to) pool) caller held
 owns-handed pool caller held place to differ h =
-    record {
-      block = h.block;
-      live = block_at-changed_other place held.place (handed_to to) pool (λ b. refl) differ ∙ h.live;
-      owned = h.owned;
-      need_is = h.need_is;
-      words_are = h.words_are;
-    }
+    owns-on pool _ caller held h (block_at-changed_other place held.place (handed_to to) pool (λ b. refl) differ ∙ h.live)
 
 -- a block as a register's
 abbrev pub held_of : ℕ → Block → HeldBlock
 held_of place block = record { place = place; words = usable_words block.need; need = block.need }
 
 -- the caller owns the block that it took from a shelf
-pub owns-taken :
+owns-taken :
     (history : List Event) (caller shelf place : ℕ) (block : Block) → block_at place (pool_of history) ≡ Some block
     → OwnsHeld (pool_of (history ++ Take caller shelf place ∷ [])) caller (held_of place block)
 owns-taken history caller shelf place block live =
@@ -133,45 +95,6 @@ holds-nothing pool caller n =
       once = λ r q held other full. absurd (let e : None ≡ Some held = sym (held-nothing n r) ∙ full in cc);
     }
 
--- registers hold the caller's blocks when one of them is set to another block of the caller's
-holds-inside :
-    (pool : Pool) (caller r : ℕ) (new : HeldBlock) (registers : List (Option HeldBlock)) → r < length registers
-    → OwnsHeld pool caller new
-    → ((q : ℕ) (held : HeldBlock) → held_in registers q ≡ Some held → (held.place ≢ new.place) × OwnsHeld pool caller held)
-    → HoldsOnce registers → HoldsOwn pool caller (slice_set registers r (Some new))
-holds-inside pool caller r new registers within owns others once =
-    record {
-      owned = λ q held eq. elim (held-set registers r q (Some new) within) [
-        | inl here ↦ let same : new ≡ held = let e : Some new ≡ Some held = sym here.1 ∙ eq in cc in
-            subst (λ (x : HeldBlock). OwnsHeld pool caller x) same owns
-        | inr there ↦ (others q held (sym there.1 ∙ eq)).1
-      ];
-      once = λ p q held other at_p at_q differ. elim (held-set registers r p (Some new) within) [
-        | inl here ↦ elim (held-set registers r q (Some new) within) [
-          | inl also ↦ absurd (differ (here.0 ∙ sym also.0))
-          | inr there ↦ let same : new ≡ held = let e : Some new ≡ Some held = sym here.1 ∙ at_p in cc in
-              λ e. (others q other (sym there.1 ∙ at_q)).0 (sym e ∙ sym (ap (λ (x : HeldBlock). x.place) same))
-        ]
-        | inr there ↦ elim (held-set registers r q (Some new) within) [
-          | inl here ↦ let same : new ≡ other = let e : Some new ≡ Some other = sym here.1 ∙ at_q in cc in
-              λ e. (others p held (sym there.1 ∙ at_p)).0 (e ∙ sym (ap (λ (x : HeldBlock). x.place) same))
-          | inr also ↦ once p q held other (sym there.1 ∙ at_p) (sym also.1 ∙ at_q) differ
-        ]
-      ];
-    }
-
-pub holds-set :
-    (pool : Pool) (caller r : ℕ) (new : HeldBlock) (registers : List (Option HeldBlock)) → OwnsHeld pool caller new
-    → ((q : ℕ) (held : HeldBlock) → held_in registers q ≡ Some held → (held.place ≢ new.place) × OwnsHeld pool caller held)
-    → HoldsOnce registers → HoldsOwn pool caller (slice_set registers r (Some new))
-holds-set pool caller r new registers owns others once =
-    elim (cases_lt r (length registers)) [
-      | inl within ↦ holds-inside pool caller r new registers within owns others once
-      | inr past ↦
-          subst (HoldsOwn pool caller) (sym (set_past registers r (Some new) past))
-          (record { owned = λ q held eq. (others q held eq).1; once = once })
-    ]
-
 -- a register that holds a block is there
 pub held-inside : (registers : List (Option HeldBlock)) (r : ℕ) (held : HeldBlock) → held_in registers r ≡ Some held → r < length registers
 held-inside registers r held full =
@@ -180,25 +103,23 @@ held-inside registers r held full =
       | inr past ↦ absurd (let e : None ≡ Some held = sym (get_or_past registers r None past) ∙ full in cc)
     ]
 
--- registers hold the caller's blocks when one of them is emptied
-pub holds-emptied :
-    (pool : Pool) (caller r : ℕ) (registers : List (Option HeldBlock)) → r < length registers
-    → ((q : ℕ) (held : HeldBlock) → q ≢ r → held_in registers q ≡ Some held → OwnsHeld pool caller held)
-    → HoldsOnce registers → HoldsOwn pool caller (slice_set registers r None)
-holds-emptied pool caller r registers within others once =
-    record {
-      owned = λ q held eq. elim (held-set registers r q None within) [
-        | inl here ↦ absurd (let e : None ≡ Some held = sym here.1 ∙ eq in cc)
-        | inr there ↦ others q held there.0 (sym there.1 ∙ eq)
-      ];
-      once = λ p q held other at_p at_q differ. elim (held-set registers r p None within) [
-        | inl here ↦ absurd (let e : None ≡ Some held = sym here.1 ∙ at_p in cc)
-        | inr there ↦ elim (held-set registers r q None within) [
-          | inl here ↦ absurd (let e : None ≡ Some other = sym here.1 ∙ at_q in cc)
-          | inr also ↦ once p q held other (sym there.1 ∙ at_p) (sym also.1 ∙ at_q) differ
-        ]
-      ];
-    }
+-- slots with one more before them hold the caller's blocks too, where the block in it is the caller's, and none of theirs
+pub holds-first :
+    (pool : Pool) (caller : ℕ) (first : Option HeldBlock) (rest : List (Option HeldBlock))
+    → ((held : HeldBlock) → first ≡ Some held
+    → OwnsHeld pool caller held × ((r : ℕ) (other : HeldBlock) → held_in rest r ≡ Some other → other.place ≢ held.place))
+    → HoldsOwn pool caller rest → HoldsOwn pool caller (first ∷ rest)
+holds-first pool caller first rest new h = record { owned = owned; once = once }
+  where
+    owned : (r : ℕ) (held : HeldBlock) → held_in (first ∷ rest) r ≡ Some held → OwnsHeld pool caller held
+    owned zero held full = (new held full).0
+    owned (suc r) held full = h.owned r held full
+
+    once : HoldsOnce (first ∷ rest)
+    once zero zero held other at_r at_q differ = absurd (differ refl)
+    once zero (suc q) held other at_r at_q differ = λ e. (new held at_r).1 q other at_q (sym e)
+    once (suc r) zero held other at_r at_q differ = (new other at_q).1 r held at_r
+    once (suc r) (suc q) held other at_r at_q differ = h.once r q held other at_r at_q (λ e. differ (ap suc e))
 
 -- blocks that stay the caller's are held as before
 pub holds-still :
@@ -208,59 +129,70 @@ pub holds-still :
 holds-still old new caller registers keep h =
     record { owned = λ r held eq. keep held (h.owned r held eq); once = h.once }
 
--- after an allocation, the registers hold the caller's blocks, the new one among them
-pub holds-fresh :
-    (g : Geometry) (history : List Event) (caller need place words r : ℕ) (registers : List (Option HeldBlock))
-    → IsLegalWithoutCounts g (history ++ Alloc caller need place ∷ []) → words ≡ usable_words (need_of need)
-    → HoldsOwn (pool_of history) caller registers
-    → HoldsOwn (pool_of (history ++ Alloc caller need place ∷ [])) caller
-    (slice_set registers r (Some (record { place = place; words = words; need = need_of need })))
-holds-fresh g history caller need place words r registers legal is h =
-    holds-set _ caller r (record { place = place; words = words; need = need_of need }) registers
-    (owns-fresh history caller need place words is)
-    (λ q held eq.
-    let owns = h.owned q held eq in
-    let differ = fresh-differs g history caller need place held.place owns.block legal owns.live in
-    (differ, owns-past history caller held caller need place differ owns))
-    h.once
+-- the first slot's block leaves the caller, and each that lies elsewhere stays the caller's
+holds-left :
+    (old new : Pool) (caller : ℕ) (gone : HeldBlock) (rest : List (Option HeldBlock))
+    → ((held : HeldBlock) → held.place ≢ gone.place → OwnsHeld old caller held → OwnsHeld new caller held)
+    → HoldsOwn old caller (Some gone ∷ rest) → HoldsOwn new caller rest
+holds-left old new caller gone rest keep h =
+    record {
+      owned = λ r held full. keep held (h.once (suc r) 0 held gone full refl (λ e. absurd (omega (arith, e)))) (h.owned (suc r) held full);
+      once = λ r q held other at_r at_q differ. h.once (suc r) (suc q) held other at_r at_q (λ e. differ (omega (arith, e)));
+    }
 
--- after a free, the other registers hold the caller's blocks
-pub holds-freed :
-    (history : List Event) (caller r : ℕ) (freed : HeldBlock) (registers : List (Option HeldBlock))
-    → held_in registers r ≡ Some freed → HoldsOwn (pool_of history) caller registers
-    → HoldsOwn (pool_of (history ++ Free caller freed.place ∷ [])) caller (slice_set registers r None)
-holds-freed history caller r freed registers holds h =
-    holds-emptied _ caller r registers (held-inside registers r freed holds)
-    (λ q held other eq.
-    owns-freed history caller held caller freed.place (h.once q r held freed eq holds other) (h.owned q held eq))
-    h.once
-
--- after a put, the other registers hold the caller's blocks
-pub holds-put :
-    (history : List Event) (caller r shelf : ℕ) (held : HeldBlock) (registers : List (Option HeldBlock))
-    → held_in registers r ≡ Some held → HoldsOwn (pool_of history) caller registers
-    → HoldsOwn (pool_of (history ++ Put caller held.place shelf ∷ [])) caller (slice_set registers r None)
-holds-put history caller r shelf held registers holds h =
-    holds-emptied _ caller r registers (held-inside registers r held holds)
-    (λ q other differ eq.
-    rw (pool_of-push history (Put caller held.place shelf))
-    (owns-handed (pool_of history) caller other held.place (Shelf shelf) (h.once q r other held eq holds differ) (h.owned q other eq)))
-    h.once
-
--- after a take, the registers hold the caller's blocks, the one taken among them
-pub holds-taken :
-    (history : List Event) (caller r shelf place : ℕ) (block : Block) (registers : List (Option HeldBlock))
-    → Owns (pool_of history) (Shelf shelf) place → block_at place (pool_of history) ≡ Some block → HoldsOwn (pool_of history) caller registers
-    → HoldsOwn (pool_of (history ++ Take caller shelf place ∷ [])) caller (slice_set registers r (Some (held_of place block)))
-holds-taken history caller r shelf place block registers shelved live h =
-    holds-set _ caller r (held_of place block) registers
-    (owns-taken history caller shelf place block live)
-    (λ q held eq.
-    let owns = h.owned q held eq in
-    let differ = owner-one (pool_of history) (Caller caller) (Shelf shelf) place held.place owns.block shelved owns.live owns.owned
-    (λ e. let s : Shelf shelf ≡ Caller caller = e in cc) in (
-      differ,
-      rw (pool_of-push history (Take caller shelf place))
-          (owns-handed (pool_of history) caller held place (Caller caller) differ owns),
+-- a block is new to the caller, and each that it held lies elsewhere and stays its own
+holds-new :
+    (old new : Pool) (caller : ℕ) (fresh : HeldBlock) (rest : List (Option HeldBlock)) → OwnsHeld new caller fresh
+    → ((held : HeldBlock) → OwnsHeld old caller held → (held.place ≢ fresh.place) × OwnsHeld new caller held)
+    → HoldsOwn old caller rest → HoldsOwn new caller (Some fresh ∷ rest)
+holds-new old new caller fresh rest owns others h =
+    holds-first new caller (Some fresh) rest
+    (λ held full.
+    let same : fresh ≡ held = let e : Some fresh ≡ Some held = full in cc in (
+      subst (OwnsHeld new caller) same owns,
+      λ r other at_r e. (others other (h.owned r other at_r)).0 (e ∙ ap (λ (b : HeldBlock). b.place) (sym same)),
     ))
-    h.once
+    (holds-still old new caller rest (λ held owned. (others held owned).1) h)
+
+-- after an allocation the caller holds the new block too
+pub holds-fresh :
+    (g : Geometry) (history : List Event) (caller need place words : ℕ) (rest : List (Option HeldBlock))
+    → IsLegalWithoutCounts g (history ++ Alloc caller need place ∷ []) → words ≡ usable_words (need_of need)
+    → HoldsOwn (pool_of history) caller rest
+    → HoldsOwn (pool_of (history ++ Alloc caller need place ∷ [])) caller (Some (record { place = place; words = words; need = need_of need }) ∷ rest)
+holds-fresh g history caller need place words rest legal is =
+    holds-new (pool_of history) _ caller (record { place = place; words = words; need = need_of need }) rest
+    (owns-fresh history caller need place words is)
+    (λ held owns.
+    let differ = fresh-differs g history caller need place held.place owns.block legal owns.live in
+    let live = block_at-past held.place (fresh_block caller need place) (pool_of history) (λ e. differ (sym e)) ∙ owns.live in
+    (differ, owns-on (pool_of history) _ caller held owns (rw (pool_of-push history (Alloc caller need place)) live)))
+
+-- after a free, and after a put, it holds the others
+pub holds-freed :
+    (history : List Event) (caller : ℕ) (gone : HeldBlock) (rest : List (Option HeldBlock)) → HoldsOwn (pool_of history) caller (Some gone ∷ rest)
+    → HoldsOwn (pool_of (history ++ Free caller gone.place ∷ [])) caller rest
+holds-freed history caller gone rest =
+    holds-left (pool_of history) _ caller gone rest
+    (λ held differ owns.
+    let live = block_at-without_other gone.place held.place (pool_of history) differ ∙ owns.live in
+    owns-on (pool_of history) _ caller held owns (rw (pool_of-push history (Free caller gone.place)) live))
+
+pub holds-put :
+    (history : List Event) (caller shelf : ℕ) (gone : HeldBlock) (rest : List (Option HeldBlock)) → HoldsOwn (pool_of history) caller (Some gone ∷ rest)
+    → HoldsOwn (pool_of (history ++ Put caller gone.place shelf ∷ [])) caller rest
+holds-put history caller shelf gone rest =
+    holds-left (pool_of history) _ caller gone rest
+    (λ held differ owns. rw (pool_of-push history (Put caller gone.place shelf)) (owns-handed (pool_of history) caller held gone.place (Shelf shelf) differ owns))
+
+-- after a take it holds the block that was taken too
+pub holds-taken :
+    (history : List Event) (caller shelf place : ℕ) (block : Block) (rest : List (Option HeldBlock))
+    → Owns (pool_of history) (Shelf shelf) place → block_at place (pool_of history) ≡ Some block → HoldsOwn (pool_of history) caller rest
+    → HoldsOwn (pool_of (history ++ Take caller shelf place ∷ [])) caller (Some (held_of place block) ∷ rest)
+holds-taken history caller shelf place block rest shelved live =
+    holds-new (pool_of history) _ caller (held_of place block) rest (owns-taken history caller shelf place block live)
+    (λ held owns.
+    let differ = owner-one (pool_of history) (Caller caller) (Shelf shelf) place held.place owns.block shelved owns.live owns.owned
+    (λ e. let s : Shelf shelf ≡ Caller caller = e in cc) in
+    (differ, rw (pool_of-push history (Take caller shelf place)) (owns-handed (pool_of history) caller held place (Caller caller) differ owns)))

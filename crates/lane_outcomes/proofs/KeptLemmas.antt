@@ -1,5 +1,5 @@
 -- The blocks in magazines, as a magazine keeps one and gives one.
-use Rattle.std.proofs.Common.{ℕ, zero, suc, ◌≡◌, ◌+◌, ◌<◌, ◌∷◌, ◌++◌, List, [], Bool, true, false, Option, Some, None, map, length, replicate, set, refl, sym, ◌∙◌, ap, subst, inl, inr, arith, add-zero, get_or-set_same, length-set}
+use Rattle.std.proofs.Common.{ℕ, zero, suc, ◌≡◌, ◌+◌, ◌<◌, ◌∷◌, ◌++◌, List, [], Bool, true, false, Option, Some, None, map, length, replicate, set, refl, sym, ◌∙◌, ap, subst, inl, inr, arith, get_or-set_same, length-set}
 use Rattle.std.specs.Prelude.{IsPermutation}
 use Rattle.std.specs.List.{flat_map}
 use Rattle.std.proofs.lemmas.Bool.{cases_lt}
@@ -20,31 +20,19 @@ use Rattle.lane_outcomes.specs.Deeds as deed
 
 -- a block more in the magazine of a class is one more that is kept, classes being numbered from `first` on
 kept-pushed-from :
-    (first : ℕ) (magazines : List (List ℕ)) (class place : ℕ) → class < length magazines
-    → IsPermutation (kept_block (first + class) place ∷ kept_from first magazines)
-    (kept_from first (set magazines class (place ∷ magazine_of magazines class)))
-kept-pushed-from first [] class place below = absurd (omega arith)
-kept-pushed-from first (places ∷ magazines) zero place below =
-    subst (λ n. IsPermutation (kept_block n place ∷ kept_from first (places ∷ magazines)) (kept_from first ((place ∷ places) ∷ magazines)))
-    (sym (add-zero first)) (IsPermutation-refl _)
-kept-pushed-from first (places ∷ magazines) (suc class) place below =
-    let next : suc first + class ≡ first + suc class = omega arith in
+    (first : ℕ) (magazines : List (List ℕ)) (class place n : ℕ) → class < length magazines → first + class ≡ n
+    → IsPermutation (kept_block n place ∷ kept_from first magazines) (kept_from first (set magazines class (place ∷ magazine_of magazines class)))
+kept-pushed-from first [] class place n below is = absurd (omega arith)
+kept-pushed-from first (places ∷ magazines) zero place n below is =
+    let same : first ≡ n = omega (arith, is) in
+    subst (λ m. IsPermutation (kept_block m place ∷ kept_from first (places ∷ magazines)) (kept_from first ((place ∷ places) ∷ magazines))) same
+    (IsPermutation-refl _)
+kept-pushed-from first (places ∷ magazines) (suc class) place n below is =
     IsPermutation-trans _ _ _ (IsPermutation-sym _ _ (IsPermutation-middle (map (kept_block first) places) _ _))
     (IsPermutation-append_right (map (kept_block first) places) _ _
-    (subst
-    (λ n. IsPermutation (kept_block n place ∷ kept_from (suc first) magazines)
-    (kept_from (suc first) (set magazines class (place ∷ magazine_of magazines class))))
-    next (kept-pushed-from (suc first) magazines class place (omega arith))))
+    (kept-pushed-from (suc first) magazines class place n (omega arith) (omega (arith, is))))
 
-pub kept-pushed :
-    (magazines : List (List ℕ)) (class place : ℕ) → class < length magazines
-    → IsPermutation (kept_block class place ∷ kept_from 0 magazines) (kept_from 0 (set magazines class (place ∷ magazine_of magazines class)))
-kept-pushed magazines class place below =
-    let same : 0 + class ≡ class = omega arith in
-    subst (λ n. IsPermutation (kept_block n place ∷ kept_from 0 magazines) (kept_from 0 (set magazines class (place ∷ magazine_of magazines class)))) same
-    (kept-pushed-from 0 magazines class place below)
-
-pub kept-popped :
+kept-popped :
     (magazines : List (List ℕ)) (class place : ℕ) (places : List ℕ) → class < length magazines → magazine_of magazines class ≡ place ∷ places
     → IsPermutation (kept_from 0 magazines) (kept_block class place ∷ kept_from 0 (set magazines class places))
 kept-popped magazines class place places below is =
@@ -54,7 +42,7 @@ kept-popped magazines class place places below is =
     ∙ ap (set magazines class) (sym is) ∙ set-get_or magazines class [] in
     IsPermutation-sym _ _
     (subst (λ xs. IsPermutation (kept_block class place ∷ kept_from 0 popped) (kept_from 0 xs)) same
-    (kept-pushed popped class place (let long = length-set magazines class places in omega (arith, long))))
+    (kept-pushed-from 0 popped class place class (let long = length-set magazines class places in omega (arith, long)) (omega arith)))
 
 -- a block that serves a need
 abbrev pub block_for : Need → ℕ → HeldBlock
@@ -82,7 +70,8 @@ kept-given magazines TooLarge place is = absurd (let e : None ≡ Some place = i
 pub kept-freed :
     (depth : ℕ) (magazines : List (List ℕ)) (need : Need) (place : ℕ) → is_kept depth magazines need ≡ true → IsNeed need → length magazines ≡ CLASSES
     → IsPermutation (block_for need place ∷ kept_from 0 magazines) (kept_from 0 (kept_with true magazines place need))
-kept-freed depth magazines (Small class) place keeps within long = kept-pushed magazines class place (omega (arith, within, long))
+kept-freed depth magazines (Small class) place keeps within long =
+    kept-pushed-from 0 magazines class place class (omega (arith, within, long)) (omega arith)
 kept-freed depth magazines (Large units) place keeps within long = absurd (let e : false ≡ true = keeps in cc)
 kept-freed depth magazines TooLarge place keeps within long = absurd (let e : false ≡ true = keeps in cc)
 

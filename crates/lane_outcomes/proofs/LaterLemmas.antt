@@ -7,7 +7,8 @@ use Rattle.pool_model.proofs.HistoryLemmas.{own-append}
 use Rattle.trace_text.specs.declared.trace.Op.{Op}
 use Rattle.lane_outcomes.specs.declared.outcome.Outcome.{Outcome}
 use Rattle.lane_outcomes.specs.Rows.{Setting}
-use Rattle.lane_outcomes.proofs.FitLemmas.{copy-later, later, row-later}
+use Rattle.lane_outcomes.proofs.FitLemmas.{row-later}
+use Rattle.lane_outcomes.proofs.SlotRows.{copy-later, later}
 use Rattle.lane_outcomes.specs.Fits.{Fits}
 use Rattle.lane_outcomes.proofs.RoomLemmas.{fits-plain, fits-room}
 use Rattle.lane_outcomes.specs.Cached.{CachedBy, CachedFits, CachedPosition, CachedRow, CachedWalks, IsGivenBy, cached_after}
@@ -15,56 +16,50 @@ use Rattle.lane_outcomes.specs.Magazines.{served_by}
 use Rattle.lane_outcomes.specs.Deeds.{Deed, deed_of}
 use Rattle.lane_outcomes.specs.Deeds as deed
 
-given-later :
-    (setting : Setting) (rest : List Event) (lost : ℕ) (position : CachedPosition) (need place : ℕ) (calls : List Event) (served : Option ℕ)
-    → IsGivenBy served setting position need place calls → IsGivenBy served (later setting rest lost) position need place calls
-given-later setting rest lost position need place calls None is = is
-given-later setting rest lost position need place calls (Some at) is = is
+module _ (setting : Setting) (rest : List Event) (lost depth : ℕ) where
+  given-later :
+      (position : CachedPosition) (need place : ℕ) (calls : List Event) (served : Option ℕ) → IsGivenBy served setting position need place calls
+      → IsGivenBy served (later setting rest lost) position need place calls
+  given-later position need place calls None is = is
+  given-later position need place calls (Some at) is = is
 
--- a row with a cache that fits a setting fits one with a longer history and more exchanges lost
-by-later :
-    (setting : Setting) (rest : List Event) (lost depth : ℕ) → setting.lost ≤ lost
-    → (position : CachedPosition) (operation : Op) (result : Outcome) (piece : List Event) (done : Deed)
-    → CachedBy setting depth position operation result piece done → CachedBy (later setting rest lost) depth position operation result piece done
-by-later setting rest lost depth more position operation result piece (deed.gives need v words place) (empty, words_are, calls, given, is) =
-    (empty, words_are, calls, given-later setting rest lost position need place calls (served_by position.magazines (need_of need)) given, is)
-by-later setting rest lost depth more position operation result piece (deed.replaces need words place)
-    (held, full, differ, words_are, calls, given, value, copy, is) = (
-      held,
-      full,
-      differ,
-      words_are,
-      calls,
-      given-later setting rest lost position need place calls (served_by position.magazines (need_of need)) given,
-      value,
-      copy-later setting rest lost position.base held words value copy,
-      is,
-    )
-by-later setting rest lost depth more position operation result piece (deed.refuses need) row =
-    (row.0, row-later setting rest lost more position.base operation result piece row.1)
-by-later setting rest lost depth more position operation result piece (deed.spends need) row =
-    (row.0, row-later setting rest lost more position.base operation result piece row.1)
-by-later setting rest lost depth more position operation result piece deed.frees row = row
-by-later setting rest lost depth more position operation result piece done row = row-later setting rest lost more position.base operation result piece row
+  -- a row with a cache that fits a setting fits one with a longer history and more exchanges lost
+  by-later :
+      setting.lost ≤ lost → (position : CachedPosition) (operation : Op) (result : Outcome) (piece : List Event) (done : Deed)
+      → CachedBy setting depth position operation result piece done → CachedBy (later setting rest lost) depth position operation result piece done
+  by-later more position operation result piece (deed.gives need v words place) (empty, words_are, calls, given, is) =
+      (empty, words_are, calls, given-later position need place calls (served_by position.magazines (need_of need)) given, is)
+  by-later more position operation result piece (deed.replaces need words place) (held, full, differ, words_are, calls, given, value, copy, is) = (
+    held,
+    full,
+    differ,
+    words_are,
+    calls,
+    given-later position need place calls (served_by position.magazines (need_of need)) given,
+    value,
+    copy-later setting rest lost position.base held words value copy,
+    is,
+  )
+  by-later more position operation result piece (deed.refuses need) row = (row.0, row-later setting rest lost more position.base operation result piece row.1)
+  by-later more position operation result piece (deed.spends need) row = (row.0, row-later setting rest lost more position.base operation result piece row.1)
+  by-later more position operation result piece deed.frees row = row
+  by-later more position operation result piece done row = row-later setting rest lost more position.base operation result piece row
 
-pub cached-row-later :
-    (setting : Setting) (rest : List Event) (lost depth : ℕ) → setting.lost ≤ lost
-    → (position : CachedPosition) (operation : Op) (result : Outcome) (piece : List Event)
-    → CachedRow setting depth position operation result piece → CachedRow (later setting rest lost) depth position operation result piece
-cached-row-later setting rest lost depth more position operation result piece =
-    by-later setting rest lost depth more position operation result piece (deed_of operation result)
+  pub cached-row-later :
+      setting.lost ≤ lost → (position : CachedPosition) (operation : Op) (result : Outcome) (piece : List Event)
+      → CachedRow setting depth position operation result piece → CachedRow (later setting rest lost) depth position operation result piece
+  cached-row-later more position operation result piece = by-later more position operation result piece (deed_of operation result)
 
--- a walk with a cache in a setting is one in a setting with a longer history and more exchanges lost
-pub cached-walks-later :
-    (setting : Setting) (rest : List Event) (lost depth : ℕ) → setting.lost ≤ lost
-    → (from to : CachedPosition) (operations : List Op) (results : List Outcome)
-    → CachedWalks setting depth from operations results to → CachedWalks (later setting rest lost) depth from operations results to
-cached-walks-later setting rest lost depth more from to (operation ∷ operations) (result ∷ results) walks = (
-  walks.0,
-  cached-row-later setting rest lost depth more from operation result walks.0 walks.1,
-  cached-walks-later setting rest lost depth more (cached_after depth from operation result walks.0) to operations results walks.2,
-)
-cached-walks-later setting rest lost depth more from to operations results walks = walks
+  -- a walk with a cache in a setting is one in a setting with a longer history and more exchanges lost
+  pub cached-walks-later :
+      setting.lost ≤ lost → (from to : CachedPosition) (operations : List Op) (results : List Outcome)
+      → CachedWalks setting depth from operations results to → CachedWalks (later setting rest lost) depth from operations results to
+  cached-walks-later more from to (operation ∷ operations) (result ∷ results) (piece, row, walks) = (
+    piece,
+    cached-row-later more from operation result piece row,
+    cached-walks-later more (cached_after depth from operation result piece) to operations results walks,
+  )
+  cached-walks-later more from to operations results walks = walks
 
 -- the outcomes of a lane fit a history that other callers went on with
 pub cached-fits-later :

@@ -24,4 +24,3 @@ pub mod RoomLemmas
 pub mod SlotLemmas
 pub mod SpentLemmas
 pub mod CachedWritten
-mod PlainWritten

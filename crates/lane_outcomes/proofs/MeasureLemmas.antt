@@ -6,7 +6,7 @@ use Rattle.heap_geometry.specs.declared.geometry.Geometry.{Geometry}
 use Rattle.heap_geometry.specs.Need.{need_of, usable_words}
 use Rattle.pool_model.specs.declared.owner.Owner.TheVariants.{Caller, Shelf}
 use Rattle.pool_model.specs.declared.event.Event.{Event}
-use Rattle.pool_model.specs.declared.event.Event.TheVariants.{Alloc, Looked, Refuse, Free, Write, Put, Take, TakeNone}
+use Rattle.pool_model.specs.declared.event.Event.TheVariants.{Alloc, Free, Write, Put, Take}
 use Rattle.pool_model.specs.Pool.{Block, Pool, block_at, written, handed_to, without, with_changed, pool_after, pool_of, live_words}
 use Rattle.pool_model.specs.Legal.{IsAllowed, IsLegalEventWithoutCounts, IsLegalWithoutCounts}
 use Rattle.pool_model.proofs.PoolLemmas.{block_at-here, block_at-past}
@@ -63,14 +63,12 @@ measure-after :
     (f : ℕ → ℕ) (g : Geometry) (before : List Event) (event : Event) → IsAllowed g before event
     → measure f (pool_after (pool_of before) event) + free_at f (pool_of before) event ≡ measure f (pool_of before) + give_at f (pool_of before) event
 measure-after f g before (Alloc caller need place) allowed = omega arith
-measure-after f g before (Looked caller class) allowed = refl
-measure-after f g before (Refuse caller need) allowed = refl
 measure-after f g before (Free caller place) allowed =
     rw allowed.1 (omega (arith, measure-without f place (pool_of before) allowed.0 allowed.1))
 measure-after f g before (Write caller place i v) allowed = omega (arith, measure-changed f place (written i v) (pool_of before) (λ b. refl))
 measure-after f g before (Put caller place shelf) allowed = omega (arith, measure-changed f place (handed_to (Shelf shelf)) (pool_of before) (λ b. refl))
 measure-after f g before (Take caller shelf place) allowed = omega (arith, measure-changed f place (handed_to (Caller caller)) (pool_of before) (λ b. refl))
-measure-after f g before (TakeNone caller shelf) allowed = refl
+measure-after f g before event allowed = refl
 
 -- what is live and what was freed are together what was given
 pub measured :

@@ -12,17 +12,16 @@ use Rattle.pool_model.specs.declared.event.Event.{Event}
 use Rattle.pool_model.specs.Calls.{EventsOf, alloc_given}
 use Rattle.pool_model.specs.declared.event.Event.TheVariants.{Free}
 use Rattle.trace_text.specs.declared.trace.Op.{Op}
-use Rattle.trace_text.specs.declared.trace.Op.TheVariants as op
 use Rattle.lane_outcomes.specs.declared.registers.HeldBlock.{HeldBlock}
 use Rattle.lane_outcomes.specs.declared.outcome.Outcome.{Outcome}
-use Rattle.lane_outcomes.specs.declared.outcome.Outcome.TheVariants as outcome
 use Rattle.lane_outcomes.specs.Fits.{Fits, LanesFit, OutcomesFit, Walks}
 use Rattle.lane_outcomes.specs.Lane.{Position, held_in, position_after, start, writing}
-use Rattle.lane_outcomes.specs.Rows.{AllocRow, FitsRow, FreeRow, MayAsk, ResizeRow, Setting}
-use Rattle.lane_outcomes.specs.Cached.{CachedFits, CachedLanesFit, CachedOutcomesFit, CachedPosition, CachedRow, CachedWalks, IsGivenBy, cached_after, magazines_by, served_with}
+use Rattle.lane_outcomes.specs.Rows.{FitsRow, MayAsk, Setting}
+use Rattle.lane_outcomes.specs.Cached.{CachedFits, CachedLanesFit, CachedBy, CachedOutcomesFit, CachedPosition, CachedRow, CachedWalks, IsGivenBy, cached_after, magazines_by, served_with}
 use Rattle.lane_outcomes.specs.Magazines.{empty_magazines, emptying, freeing, given_from, is_kept, kept_with, last_in, magazine_of, magazines_freed, magazines_given, served_by}
 use Rattle.lane_outcomes.specs.Deeds.{Deed, deed_of, register_of}
 use Rattle.lane_outcomes.specs.Deeds as deed
+use Rattle.lane_outcomes.proofs.SlotRows.{Dealt, Hands, dealt-row, row-hands}
 
 -- empty magazines serve nothing
 abbrev pub no_places : List ℕ
@@ -90,16 +89,25 @@ pub given-plain :
     → MayAsk position need × EventsOf setting.caller (alloc_given need place) calls
 given-plain setting position need place calls is = subst (λ served. IsGivenBy served setting (plain position) need place calls) (none-served (need_of need)) is
 
-row-plain :
-    (setting : Setting) (position : Position) (operation : Op) (result : Outcome) (piece : List Event)
-    → CachedRow setting 0 (plain position) operation result piece → FitsRow setting position operation result piece
-row-plain setting position (op.Alloc r need v) (outcome.Given words place) piece (empty, words_are, calls, given, is) =
+given-room :
+    (setting : Setting) (position : Position) (need place : ℕ) (calls : List Event) → MayAsk position need → EventsOf setting.caller (alloc_given need place) calls
+    → IsGivenBy (served_by empty_magazines (need_of need)) setting (plain position) need place calls
+given-room setting position need place calls may events =
+    subst (λ served. IsGivenBy served setting (plain position) need place calls) (sym (none-served (need_of need))) (may, events)
+
+-- a row of one is a row of the other
+plain-by :
+    (setting : Setting) (position : Position) (operation : Op) (result : Outcome) (piece : List Event) (done : Deed)
+    → (Dealt setting position (held_in position.registers (register_of operation)) done piece → FitsRow setting position operation result piece)
+    → CachedBy setting 0 (plain position) operation result piece done → FitsRow setting position operation result piece
+plain-by setting position operation result piece (deed.gives need v words place) back (empty, words_are, calls, given, is) =
+    let may = given-plain setting position need place calls given in back (empty, may.0, words_are, calls, may.1, is)
+plain-by setting position operation result piece (deed.replaces need words place) back (held, full, differ, words_are, calls, given, value, copy, is) =
     let may = given-plain setting position need place calls given in
-    subst (λ held. AllocRow setting position need v held (outcome.Given words place) piece) (sym empty) (may.0, words_are, calls, may.1, is)
-row-plain setting position (op.Resize r need) (outcome.Resized words place) piece (held, full, differ, words_are, calls, given, value, copy, is) =
-    let may = given-plain setting position need place calls given in
-    let given_back = none-kept (magazines_given empty_magazines (need_of need)) held.need in
-    subst (λ slot. ResizeRow setting position need slot (outcome.Resized words place) piece) (sym full) (
+    let gone = none-kept (magazines_given empty_magazines (need_of need)) held.need in
+    back (
+      held,
+      full,
       differ,
       may.0,
       words_are,
@@ -107,18 +115,45 @@ row-plain setting position (op.Resize r need) (outcome.Resized words place) piec
       may.1,
       value,
       copy,
-      is ∙ ap (λ keeps. calls ++ writing setting.caller place words value ++ freeing setting.caller keeps held.place) given_back,
+      is ∙ ap (λ keeps. calls ++ writing setting.caller place words value ++ freeing setting.caller keeps held.place) gone,
     )
-row-plain setting position (op.Alloc r need v) outcome.Refused piece row = row.1
-row-plain setting position (op.Alloc r need v) outcome.Spent piece row = row.1
-row-plain setting position (op.Resize r need) outcome.Refused piece row = row.1
-row-plain setting position (op.Resize r need) outcome.Spent piece row = row.1
-row-plain setting position (op.Free r) outcome.Freed piece (held, full, is) =
-    subst (λ slot. FreeRow setting slot outcome.Freed piece) (sym full)
-    (is ∙ ap (λ keeps. freeing setting.caller keeps held.place) (none-kept empty_magazines held.need))
-row-plain setting position (op.Put r shelf) outcome.Put piece row = row
-row-plain setting position (op.Take r shelf) (outcome.Took words place need) piece row = row
-row-plain setting position operation result piece row = row
+plain-by setting position operation result piece deed.frees back (held, full, is) =
+    back (held, full, is ∙ ap (λ keeps. freeing setting.caller keeps held.place) (none-kept empty_magazines held.need))
+plain-by setting position operation result piece (deed.refuses need) back row = row.1
+plain-by setting position operation result piece (deed.spends need) back row = row.1
+plain-by setting position operation result piece done back row = row
+
+room-by :
+    (setting : Setting) (position : Position) (operation : Op) (result : Outcome) (piece : List Event) (done : Deed)
+    → Hands setting position (held_in position.registers (register_of operation)) done piece → FitsRow setting position operation result piece
+    → CachedBy setting 0 (plain position) operation result piece done
+room-by setting position operation result piece (deed.gives need v words place) (empty, may, words_are, calls, events, is) row =
+    (empty, words_are, calls, given-room setting position need place calls may events, is)
+room-by setting position operation result piece (deed.replaces need words place) (held, full, differ, may, words_are, calls, events, value, copy, is) row = (
+  held,
+  full,
+  differ,
+  words_are,
+  calls,
+  given-room setting position need place calls may events,
+  value,
+  copy,
+  is
+      ∙ ap (λ keeps. calls ++ writing setting.caller place words value ++ freeing setting.caller keeps held.place)
+      (sym (none-kept (magazines_given empty_magazines (need_of need)) held.need)),
+)
+room-by setting position operation result piece deed.frees (held, full, is) row =
+    (held, full, is ∙ ap (λ keeps. freeing setting.caller keeps held.place) (sym (none-kept empty_magazines held.need)))
+room-by setting position operation result piece (deed.refuses need) hands row = (none-served (need_of need), row)
+room-by setting position operation result piece (deed.spends need) hands row = (none-served (need_of need), row)
+room-by setting position operation result piece done hands row = row
+
+pub row-room :
+    (setting : Setting) (position : Position) (operation : Op) (result : Outcome) (piece : List Event) → FitsRow setting position operation result piece
+    → CachedRow setting 0 (plain position) operation result piece
+row-room setting position operation result piece row =
+    room-by setting position operation result piece (deed_of operation result)
+    (row-hands setting position piece operation (held_in position.registers (register_of operation)) result row) row
 
 pub walks-plain :
     (setting : Setting) (from : Position) (to : CachedPosition) (operations : List Op) (results : List Outcome)
@@ -127,8 +162,16 @@ walks-plain setting from to [] [] walks = (from, walks, refl)
 walks-plain setting from to (operation ∷ operations) (result ∷ results) (piece, row, walks) =
     let rest =
     walks-plain setting (position_after from operation result piece) to operations results
-    (subst (λ p. CachedWalks setting 0 p operations results to) (plain-after from operation result piece) walks) in
-    (rest.0, rest.1, (piece, row-plain setting from operation result piece row, rest.2))
+    (subst (λ p. CachedWalks setting 0 p operations results to) (plain-after from operation result piece) walks) in (
+      rest.0,
+      rest.1,
+      (
+        piece,
+        plain-by setting from operation result piece (deed_of operation result)
+            (dealt-row setting from piece operation (held_in from.registers (register_of operation)) result) row,
+        rest.2,
+      ),
+    )
 walks-plain setting from to operations results walks = absurd walks
 
 pub fits-plain :
@@ -165,62 +208,6 @@ outcomes-plain g history lost lanes outcomes hits fit =
     (record { lanes_fit = all.0; callers = fit.callers }, all.1)
 
 -- and the other way round: a lane without a cache stands as one without room
-given-room :
-    (setting : Setting) (position : Position) (need place : ℕ) (calls : List Event) → MayAsk position need → EventsOf setting.caller (alloc_given need place) calls
-    → IsGivenBy (served_by empty_magazines (need_of need)) setting (plain position) need place calls
-given-room setting position need place calls may events =
-    subst (λ served. IsGivenBy served setting (plain position) need place calls) (sym (none-served (need_of need))) (may, events)
-
-alloc-room :
-    (setting : Setting) (position : Position) (r need v words place : ℕ) (piece : List Event) (held : Option HeldBlock) → held_in position.registers r ≡ held
-    → AllocRow setting position need v held (outcome.Given words place) piece
-    → CachedRow setting 0 (plain position) (op.Alloc r need v) (outcome.Given words place) piece
-alloc-room setting position r need v words place piece None empty (may, words_are, calls, events, is) =
-    (empty, words_are, calls, given-room setting position need place calls may events, is)
-alloc-room setting position r need v words place piece (Some held) empty row = absurd row
-
-resize-room :
-    (setting : Setting) (position : Position) (r need words place : ℕ) (piece : List Event) (slot : Option HeldBlock) → held_in position.registers r ≡ slot
-    → ResizeRow setting position need slot (outcome.Resized words place) piece
-    → CachedRow setting 0 (plain position) (op.Resize r need) (outcome.Resized words place) piece
-resize-room setting position r need words place piece None full row = absurd row
-resize-room setting position r need words place piece (Some held) full (differ, may, words_are, calls, events, value, copy, is) = (
-  held,
-  full,
-  differ,
-  words_are,
-  calls,
-  given-room setting position need place calls may events,
-  value,
-  copy,
-  is
-      ∙ ap (λ keeps. calls ++ writing setting.caller place words value ++ freeing setting.caller keeps held.place)
-      (sym (none-kept (magazines_given empty_magazines (need_of need)) held.need)),
-)
-
-free-room :
-    (setting : Setting) (position : Position) (r : ℕ) (piece : List Event) (slot : Option HeldBlock) → held_in position.registers r ≡ slot
-    → FreeRow setting slot outcome.Freed piece → CachedRow setting 0 (plain position) (op.Free r) outcome.Freed piece
-free-room setting position r piece None full row = absurd row
-free-room setting position r piece (Some held) full row =
-    (held, full, row ∙ ap (λ keeps. freeing setting.caller keeps held.place) (sym (none-kept empty_magazines held.need)))
-
-pub row-room :
-    (setting : Setting) (position : Position) (operation : Op) (result : Outcome) (piece : List Event) → FitsRow setting position operation result piece
-    → CachedRow setting 0 (plain position) operation result piece
-row-room setting position (op.Alloc r need v) (outcome.Given words place) piece row =
-    alloc-room setting position r need v words place piece (held_in position.registers r) refl row
-row-room setting position (op.Resize r need) (outcome.Resized words place) piece row =
-    resize-room setting position r need words place piece (held_in position.registers r) refl row
-row-room setting position (op.Free r) outcome.Freed piece row = free-room setting position r piece (held_in position.registers r) refl row
-row-room setting position (op.Alloc r need v) outcome.Refused piece row = (none-served (need_of need), row)
-row-room setting position (op.Alloc r need v) outcome.Spent piece row = (none-served (need_of need), row)
-row-room setting position (op.Resize r need) outcome.Refused piece row = (none-served (need_of need), row)
-row-room setting position (op.Resize r need) outcome.Spent piece row = (none-served (need_of need), row)
-row-room setting position (op.Put r shelf) outcome.Put piece row = row
-row-room setting position (op.Take r shelf) (outcome.Took words place need) piece row = row
-row-room setting position operation result piece row = row
-
 pub walks-room :
     (setting : Setting) (from to : Position) (operations : List Op) (results : List Outcome) → Walks setting from operations results to
     → CachedWalks setting 0 (plain from) operations results (plain to)

@@ -9,8 +9,8 @@ use Rattle.std.proofs.lemmas.List.Sorted.{IsPermutation-keeps, IsPermutation-mid
 use Rattle.pool_model.specs.Pool.{Pool}
 use Rattle.lane_outcomes.specs.declared.registers.HeldBlock.{HeldBlock}
 use Rattle.lane_outcomes.specs.Lane.{held_in}
-use Rattle.lane_outcomes.specs.Standing.{OwnsHeld, HoldsOwn}
-use Rattle.lane_outcomes.proofs.HoldLemmas.{held-inside}
+use Rattle.lane_outcomes.specs.Standing.{HoldsOwn}
+use Rattle.lane_outcomes.proofs.HoldLemmas.{held-inside, holds-first}
 
 abbrev pub slots : List HeldBlock → List (Option HeldBlock) → List (Option HeldBlock)
 slots kept registers = map (λ held. Some held) kept ++ registers
@@ -83,20 +83,6 @@ holds-rest pool caller first rest h =
       once = λ r q held other at_r at_q differ. h.once (suc r) (suc q) held other at_r at_q (λ e. differ (ap pred e));
     }
 
--- slots with an empty one before them hold the caller's blocks too
-pub holds-none : (pool : Pool) (caller : ℕ) (rest : List (Option HeldBlock)) → HoldsOwn pool caller rest → HoldsOwn pool caller (None ∷ rest)
-holds-none pool caller rest h = record { owned = owned; once = once }
-  where
-    owned : (r : ℕ) (held : HeldBlock) → held_in (None ∷ rest) r ≡ Some held → OwnsHeld pool caller held
-    owned zero held full = absurd (let e : None ≡ Some held = full in cc)
-    owned (suc r) held full = h.owned r held full
-
-    once :
-        (r q : ℕ) (held other : HeldBlock) → held_in (None ∷ rest) r ≡ Some held → held_in (None ∷ rest) q ≡ Some other → r ≢ q → held.place ≢ other.place
-    once zero q held other at_r at_q differ = absurd (let e : None ≡ Some held = at_r in cc)
-    once (suc r) zero held other at_r at_q differ = absurd (let e : None ≡ Some other = at_q in cc)
-    once (suc r) (suc q) held other at_r at_q differ = h.once r q held other at_r at_q (λ e. differ (ap suc e))
-
 -- the first slot and a register in each other's place
 first-exchanged :
     (first : Option HeldBlock) (registers : List (Option HeldBlock)) (r : ℕ) → r < length registers
@@ -125,7 +111,7 @@ holds-lifted pool caller r held kept registers full h =
     holds-shuffled pool caller (None ∷ slots kept registers) (slots (held ∷ kept) (set registers r None))
     (subst (λ first. IsPermutation (None ∷ slots kept registers) (first ∷ slots kept (set registers r None))) full
     (slot-exchanged None kept registers r (held-inside registers r held full)))
-    (holds-none pool caller (slots kept registers) h)
+    (holds-first pool caller None (slots kept registers) (λ held e. absurd (let none : None ≡ Some held = e in cc)) h)
 
 -- a block that was kept is given to a register
 pub holds-served :
@@ -154,11 +140,3 @@ slot-held [] registers r = let same : 0 + r ≡ r = omega arith in ap (held_in r
 slot-held (held ∷ kept) registers r =
     let next : suc (length kept) + r ≡ suc (length kept + r) = omega arith in
     ap (held_in (slots (held ∷ kept) registers)) next ∙ slot-held kept registers r
-
-pub slot-set :
-    (kept : List HeldBlock) (registers : List (Option HeldBlock)) (r : ℕ) (held : Option HeldBlock)
-    → set (slots kept registers) (length kept + r) held ≡ slots kept (set registers r held)
-slot-set [] registers r held = let same : 0 + r ≡ r = omega arith in ap (λ k. set registers k held) same
-slot-set (first ∷ kept) registers r held =
-    let next : suc (length kept) + r ≡ suc (length kept + r) = omega arith in
-    ap (λ k. set (slots (first ∷ kept) registers) k held) next ∙ ap (λ xs. Some first ∷ xs) (slot-set kept registers r held)

@@ -3,12 +3,11 @@ use Rattle.std.proofs.Common.{ℕ, zero, suc, ◌≡◌, ◌<◌, ◌+◌, map, 
 use Rattle.std.specs.List.{AllByRecursion, AllZip}
 use Rattle.pool_model.specs.declared.event.Event.{Event}
 use Rattle.pool_model.specs.declared.event.Event.TheVariants.{Write}
-use Rattle.pool_model.specs.Pool.{pool_of, written}
-use Rattle.trace_text.specs.declared.trace.Op.TheVariants as op
+use Rattle.pool_model.specs.Pool.{pool_of}
 use Rattle.lane_outcomes.specs.declared.registers.HeldBlock.{HeldBlock}
 use Rattle.lane_outcomes.specs.declared.outcome.Outcome.TheVariants as outcome
 use Rattle.lane_outcomes.specs.Lane.{Position, held_in}
-use Rattle.lane_outcomes.specs.Rows.{CheckRow, FitsRow, IsWord, Moment, Setting}
+use Rattle.lane_outcomes.specs.Rows.{CheckRow, IsWord, Moment, Setting}
 use Rattle.lane_outcomes.specs.Written.{HoldsWritten, SumsWritten}
 use Rattle.lane_outcomes.proofs.WrittenBlocks.{known-words}
 use Rattle.lane_outcomes.proofs.FillLemmas.{writes_of}
@@ -19,7 +18,7 @@ one-of P [] rest event all = all.0
 one-of P (first ∷ before) rest event all = one-of P before rest event all.1
 
 -- the sum of a check is that of words that were written
-check-sum :
+pub check-sum :
     (setting : Setting) (position : Position) (r total : ℕ) (piece : List Event) (held : Option HeldBlock) → held_in position.registers r ≡ held
     → ((moment : Moment setting position.done) → HoldsWritten (pool_of moment.before) position.registers)
     → CheckRow setting position held (outcome.Sum total) piece → SumsWritten setting position r total
@@ -39,12 +38,6 @@ check-sum setting position r total piece (Some held) full all (none, moment, blo
           ∙ ap (λ ns. sum ns % 2 ^ 64)
           (known-words words.0 summed.words (subst (λ (cs : List (Option ℕ)). AllZip IsWord cs summed.words) words.1 summed.each));
     }
-
-pub check-at :
-    (setting : Setting) (position : Position) (r total : ℕ) (piece : List Event)
-    → ((moment : Moment setting position.done) → HoldsWritten (pool_of moment.before) position.registers)
-    → FitsRow setting position (op.Check r) (outcome.Sum total) piece → SumsWritten setting position r total
-check-at setting position r total piece all row = check-sum setting position r total piece (held_in position.registers r) refl all row
 
 -- a number for a copied word is the word that was written, and 0 past the end
 pub copied-word : (values : List ℕ) (i n : ℕ) → IsWord (get_or (map (λ word. Some word) values) i (Some 0)) n → n ≡ get_or values i 0

@@ -1,5 +1,5 @@
 -- Along a lane's operations, also through a cache, each block that it is given is filled.
-use Rattle.std.proofs.Common.{ℕ, ◌≡◌, ◌+◌, List, [], ◌∷◌, ◌++◌, Bool, true, false, Option, Some, None, map, sym, ◌∙◌, ap, subst}
+use Rattle.std.proofs.Common.{ℕ, ◌≡◌, List, [], ◌∷◌, ◌++◌, Bool, true, false, Option, Some, None, sym, ◌∙◌, ap, subst}
 use Rattle.std.specs.List.{AllByRecursion}
 use Rattle.heap_geometry.specs.Need.{need_of, usable_words}
 use Rattle.pool_model.specs.declared.event.Event.{Event}
@@ -7,25 +7,24 @@ use Rattle.pool_model.specs.declared.event.Event.TheVariants.{Alloc, Free, Put, 
 use Rattle.pool_model.proofs.HistoryLemmas.{push-append}
 use Rattle.trace_text.specs.declared.trace.Op.{Op}
 use Rattle.lane_outcomes.specs.declared.outcome.Outcome.{Outcome}
-use Rattle.lane_outcomes.specs.Cached.{CachedPosition, CachedWalks, IsGivenBy, cached_after}
+use Rattle.lane_outcomes.specs.Cached.{CachedPosition, CachedWalks, IsGivenBy}
 use Rattle.lane_outcomes.specs.Deeds.{Deed, deed_of, register_of}
 use Rattle.lane_outcomes.specs.Deeds as deed
 use Rattle.lane_outcomes.specs.Lane.{writing}
 use Rattle.lane_outcomes.specs.Magazines.{freeing, is_kept, magazines_given, served_by}
 use Rattle.lane_outcomes.specs.Rows.{Setting}
-use Rattle.lane_outcomes.proofs.FollowLemmas.{IsStill}
-use Rattle.lane_outcomes.proofs.SlotRows.{Adds, row-adds, stills-mild}
-use Rattle.lane_outcomes.proofs.WalkLemmas.{stills-refusing, stills-spent, IsGiven, given-of, stills-writing}
+use Rattle.lane_outcomes.proofs.LanesLemmas.{walk-kept}
+use Rattle.lane_outcomes.proofs.SlotRows.{Adds, IsMild, row-adds}
+use Rattle.lane_outcomes.proofs.WalkLemmas.{IsGiven, all-looks, all-map, all-refused, all-writing, given-of, spent-looks}
 use Rattle.lane_outcomes.proofs.WrittenBlocks.{FillsFrom, IsFilled, IsNoAlloc, filled-append, filled-given, filled-one, from-append, no_part}
 
-still-none : (caller : ℕ) (event : Event) → IsStill caller event → IsNoAlloc event
-still-none caller (Alloc other need place) still = still
-still-none caller event still = tt
+mild-none : (caller : ℕ) (event : Event) → IsMild caller event → IsNoAlloc event
+mild-none caller (Alloc by need place) mild = mild
+mild-none caller event mild = tt
 
-filled-stills : (caller : ℕ) (events : List Event) → AllByRecursion (IsStill caller) events → IsFilled events
-filled-stills caller [] stills part none = (tt, none)
-filled-stills caller (event ∷ events) stills part none =
-    filled-append (event ∷ []) events (filled-one event (still-none caller event stills.0)) (filled-stills caller events stills.1) part none
+pub filled-all : (events : List Event) → AllByRecursion IsNoAlloc events → IsFilled events
+filled-all [] none part left = (tt, left)
+filled-all (event ∷ events) none part left = filled-append (event ∷ []) events (filled-one event none.0) (filled-all events none.1) part left
 
 filled-made :
     (caller need words place : ℕ) (value : ℕ → ℕ) (calls : List Event) → words ≡ usable_words (need_of need) → IsGiven caller need place calls
@@ -35,7 +34,7 @@ filled-made caller need words place value calls words_are given =
     let whole : calls ++ fill ≡ given.looked ++ Alloc caller need place ∷ fill =
     ap (λ es. es ++ fill) given.whole ∙ push-append given.looked fill (Alloc caller need place) in
     subst IsFilled (sym whole)
-    (filled-append given.looked (Alloc caller need place ∷ fill) (filled-stills caller given.looked given.stills)
+    (filled-append given.looked (Alloc caller need place ∷ fill) (filled-all given.looked (all-looks IsNoAlloc caller given.looked (λ class. tt) given.look))
     (filled-given caller need place words value words_are))
 
 filled-handed :
@@ -45,7 +44,7 @@ filled-handed setting position need words place value calls None words_are given
     filled-made setting.caller need words place value calls words_are (given-of setting.caller need place (need_of need) calls given.1)
 filled-handed setting position need words place value calls (Some at) words_are given =
     subst (λ es. IsFilled (es ++ writing setting.caller place words value)) (sym given.1)
-    (filled-stills setting.caller (writing setting.caller place words value) (stills-writing setting.caller place words value))
+    (filled-all (writing setting.caller place words value) (all-writing IsNoAlloc setting.caller place words value (λ i n. tt)))
 
 filled-freeing : (caller : ℕ) (keeps : Bool) (place : ℕ) → IsFilled (freeing caller keeps place)
 filled-freeing caller true place part none = (tt, none)
@@ -66,21 +65,16 @@ module _ (setting : Setting) (depth : ℕ) where
   deed-filled position r deed.lays piece (held, full, shelf, is) = subst IsFilled (sym is) (filled-one (Put setting.caller held.place shelf) tt)
   deed-filled position r (deed.takes words place need) piece (shelf, row) = subst IsFilled (sym row.0) (filled-one (Take setting.caller shelf place) tt)
   deed-filled position r (deed.refuses need) piece events =
-      filled-stills setting.caller piece (stills-refusing setting.caller need (need_of need) piece events)
+      filled-all piece (all-refused IsNoAlloc setting.caller need piece (λ class. tt) tt events)
   deed-filled position r (deed.spends need) piece spent =
-      filled-stills setting.caller piece (stills-spent setting position.base need piece position.base.spent spent)
-  deed-filled position r deed.stays piece milds = filled-stills setting.caller piece (stills-mild setting.caller piece milds)
+      filled-all piece (all-looks IsNoAlloc setting.caller piece (λ class. tt) (spent-looks setting position.base need piece position.base.spent spent))
+  deed-filled position r deed.stays piece milds = filled-all piece (all-map (IsMild setting.caller) IsNoAlloc piece (mild-none setting.caller) milds)
 
   pub walk-filled :
       (from to : CachedPosition) (operations : List Op) (results : List Outcome) → CachedWalks setting depth from operations results to
       → FillsFrom no_part from.base.done → FillsFrom no_part to.base.done
-  walk-filled from to [] [] walks filled = subst (λ p. FillsFrom no_part p.base.done) (sym walks) filled
-  walk-filled from to (operation ∷ operations) (result ∷ results) (piece, row, walks) filled =
-      walk-filled (cached_after depth from operation result piece) to operations results walks
-      (from-append no_part from.base.done piece filled (deed-filled from (register_of operation) (deed_of operation result) piece (row-adds setting depth from operation result piece row)))
-  walk-filled from to operations results walks filled = absurd walks
-
-pub filled-frees : (caller : ℕ) (places : List ℕ) → IsFilled (map (λ place. Free caller place) places)
-filled-frees caller [] part none = (tt, none)
-filled-frees caller (place ∷ places) part none =
-    filled-append (Free caller place ∷ []) (map (λ at. Free caller at) places) (filled-one (Free caller place) tt) (filled-frees caller places) part none
+  walk-filled =
+      walk-kept setting depth (λ at. FillsFrom no_part at.base.done)
+      (λ at operation result piece row filled.
+      from-append no_part at.base.done piece filled
+      (deed-filled at (register_of operation) (deed_of operation result) piece (row-adds setting depth at operation result piece row)))

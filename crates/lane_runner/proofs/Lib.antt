@@ -14,7 +14,6 @@ pub mod RowLemmas
 pub mod RunLanes
 pub mod RunLemmas
 pub mod RunMeasures
-pub mod StopLemmas
 pub mod ThreadLemmas
 pub mod WalkLemmas
 mod WholeScripts

@@ -1,9 +1,9 @@
 -- Elements with their numbers: passes, and what threads work on.
-use Rattle.std.proofs.Common.{ℕ, suc, ◌≡◌, ◌<◌, ◌≤◌, ◌+◌, ◌↔◌, Bool, false, IsTrue, List, [], ◌∷◌, ◌++◌, length, get_or, take, drop, refl, sym, ap, ◌∙◌, subst, inl, inr, arith}
+use Rattle.std.proofs.Common.{ℕ, suc, ◌≡◌, ◌<◌, ◌≤◌, ◌+◌, ◌↔◌, Bool, false, IsTrue, List, [], ◌∷◌, ◌++◌, length, max, get_or, take, drop, refl, sym, ap, ◌∙◌, subst, inl, inr, arith}
 use Rattle.std.specs.Prelude.{All}
 use Rattle.std.proofs.lemmas.Bool.{true≢false, cases_eq, cases_lt}
 use Rattle.std.proofs.lemmas.Grind.{common_steps}
-use Rattle.std.proofs.lemmas.List.{append-nil, length-append}
+use Rattle.std.proofs.lemmas.List.{append-nil, get_or_append_left, get_or_push, length-append}
 use Rattle.std.proofs.lemmas.List.Elements.{All-cons, All-nil}
 use Rattle.std.proofs.Math.ListN.{get_or-eq_default}
 use Rattle.errand_steps.specs.Begins.{IsIdle}
@@ -97,3 +97,19 @@ some-lane (lane ∷ lanes) empty is isnt = omega arith
 
 pub push-long : {X : Type 0} (xs ys : List X) (x : X) → xs ≡ ys ++ x ∷ [] → length xs ≡ length ys + 1
 push-long xs ys x is = ap length is ∙ omega (arith, length-append ys (x ∷ []))
+
+-- a trace's heap has a caller for each lane
+pub at-least-one : (n m : ℕ) → m ≡ max 1 n → n ≤ m
+at-least-one n m is = omega (arith, is)
+
+-- what is so of a new last element, and of the others in their places, is so of each
+pub pushed :
+    {X : Type 0} (P : ℕ → X → Type 0) (xs : List X) (new : X) (at : ℕ) (x : X) → at < length (xs ++ new ∷ []) → x ≡ get_or (xs ++ new ∷ []) at x
+    → P (length xs) new → (at < length xs → x ≡ get_or xs at x → P at x) → P at x
+pushed P xs new at x below is here others =
+    elim (cases_lt at (length xs)) [
+      | inl early ↦ others early (is ∙ get_or_append_left xs (new ∷ []) x at early)
+      | inr least ↦
+          let same : length xs ≡ at = omega (arith, least, below, length-append xs (new ∷ [])) in
+          subst (λ k. P k x) same (subst (P (length xs)) (sym (is ∙ get_or_push xs new x at same)) here)
+    ]

@@ -3,7 +3,7 @@ use Rattle.std.proofs.Common.{ℕ, zero, suc, true, false, ◌≡◌, ◌∷◌,
 use Rattle.std.specs.Prelude.{reverse, slice_set}
 use Rattle.std.specs.List.{flat_map}
 use Rattle.std.proofs.lemmas.Bool.{cases_lt, le-ltb, lt-ltb}
-use Rattle.std.proofs.lemmas.List.{length-map, length-reverse, map-append, reverse-append}
+use Rattle.std.proofs.lemmas.List.{get_or_at, length-map, length-reverse, map-append, reverse-append, set_at}
 use Rattle.heap_geometry.specs.declared.need.Need.{Need}
 use Rattle.heap_geometry.specs.declared.need.Need.TheVariants.{Small, Large, TooLarge}
 use Rattle.heap_geometry.specs.Need.{need_of}
@@ -40,21 +40,6 @@ at-class [] class = refl
 at-class (stack ∷ stacks) zero = refl
 at-class (stack ∷ stacks) (suc class) = at-class stacks class
 
--- the magazine of a class among others
-here : (before after : List (List ℕ)) (class : ℕ) (magazine : List ℕ) → length before ≡ class → magazine_of (before ++ magazine ∷ after) class ≡ magazine
-here [] after zero magazine is = refl
-here [] after (suc class) magazine is = absurd (omega (arith, is))
-here (x ∷ before) after zero magazine is = absurd (omega (arith, is))
-here (x ∷ before) after (suc class) magazine is = here before after class magazine (omega (arith, is))
-
-set-here :
-    (before after : List (List ℕ)) (class : ℕ) (old new : List ℕ) → length before ≡ class
-    → slice_set (before ++ old ∷ after) class new ≡ before ++ new ∷ after
-set-here [] after zero old new is = refl
-set-here [] after (suc class) old new is = absurd (omega (arith, is))
-set-here (x ∷ before) after zero old new is = absurd (omega (arith, is))
-set-here (x ∷ before) after (suc class) old new is = ap (λ xs. x ∷ xs) (set-here before after class old new (omega (arith, is)))
-
 -- a magazine with a block on its top, and without it
 module _ (class : ℕ) (block : Block) (more less : List (List Block)) (top : HasOnTop class block more less) where
   abbrev front : List (List ℕ)
@@ -75,22 +60,22 @@ module _ (class : ℕ) (block : Block) (more less : List (List Block)) (top : Ha
   without-it = ap places_of top.without_it ∙ map-append places_on top.before (top.stack ∷ top.after)
 
   has-it : magazine_of (places_of more) class ≡ block.place ∷ places_on top.stack
-  has-it = ap (λ ms. magazine_of ms class) with-it ∙ here front back class (block.place ∷ places_on top.stack) front-long
+  has-it = ap (λ ms. magazine_of ms class) with-it ∙ get_or_at front (block.place ∷ places_on top.stack) back [] class front-long
 
   pub top-served : served_by (places_of more) (Small class) ≡ Some block.place
   top-served = ap last_in has-it
 
   pub top-given : places_of less ≡ given_from (Some block.place) (places_of more) (Small class)
   top-given =
-      without-it ∙ sym (set-here front back class (block.place ∷ places_on top.stack) (places_on top.stack) front-long)
+      without-it ∙ sym (set_at front (block.place ∷ places_on top.stack) back (places_on top.stack) class front-long)
       ∙ ap (λ ms. slice_set ms class (places_on top.stack)) (sym with-it)
       ∙ ap (λ xs. slice_set (places_of more) class (others_in xs)) (sym has-it)
 
   pub top-kept : places_of more ≡ kept_with true (places_of less) block.place (Small class)
   top-kept =
       let was : magazine_of (places_of less) class ≡ places_on top.stack =
-      ap (λ ms. magazine_of ms class) without-it ∙ here front back class (places_on top.stack) front-long in
-      with-it ∙ sym (set-here front back class (places_on top.stack) (block.place ∷ places_on top.stack) front-long)
+      ap (λ ms. magazine_of ms class) without-it ∙ get_or_at front (places_on top.stack) back [] class front-long in
+      with-it ∙ sym (set_at front (places_on top.stack) back (block.place ∷ places_on top.stack) class front-long)
       ∙ ap (λ ms. slice_set ms class (block.place ∷ places_on top.stack)) (sym without-it)
       ∙ ap (λ (xs : List ℕ). slice_set (places_of less) class (block.place ∷ xs)) (sym was)
 

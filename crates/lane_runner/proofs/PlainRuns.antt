@@ -1,7 +1,7 @@
 -- Lanes through caches of depth 0 have run on their passes.
-use Rattle.std.proofs.Common.{ℕ, zero, suc, ◌≡◌, ◌<◌, ◌≤◌, ◌∷◌, ◌++◌, List, [], Vec, Global, length, get_or, sym, ap, refl, ◌∙◌, subst, arith}
+use Rattle.std.proofs.Common.{ℕ, suc, ◌≡◌, ◌<◌, ◌∷◌, ◌++◌, List, [], Vec, Global, length, get_or, sym, ap, refl, ◌∙◌, subst, arith, None, Some}
 use Rattle.std.specs.Prelude.{All, reverse}
-use Rattle.std.proofs.lemmas.List.{length-append}
+use Rattle.std.proofs.lemmas.List.{nil_from_length}
 use Rattle.std.proofs.lemmas.List.Elements.{All-from_get_or}
 use Rattle.errand_steps.specs.declared.reply.Reply.{Reply}
 use Rattle.errand_steps.specs.Calls.{Call}
@@ -21,31 +21,18 @@ use Rattle.trace_lane.specs.Made.{AllMade}
 use Rattle.trace_lane.proofs.MadeLemmas.{made-of}
 use Rattle.block_cache.specs.declared.cache.Cache.{Cache}
 use Rattle.block_cache.specs.Caches.{stacks_in}
-use Rattle.block_cache.specs.Magazines.{AreMagazines, HasOnTop, leaving, stack_at, stacks_of}
+use Rattle.block_cache.specs.Magazines.{AreMagazines, leaving, stacks_of}
 use Rattle.block_cache.specs.Whole.{RestsAt, asked, kept, served}
 use Rattle.block_cache.proofs.WholeLemmas.{no-depth}
 use Rattle.lane_engine.specs.Caches.{HasEndedAt, IsCachedCall, frees_of}
 use Rattle.lane_runner.specs.Passes.{HasEndedOver, HaveRun, WholeAt}
 use Rattle.lane_runner.specs.Threads.{HasEndedWith, HaveRunThrough}
 use Rattle.lane_runner.specs.Running.{operations_in}
-use Rattle.lane_runner.proofs.ClosedFits.{at-least-one}
-use Rattle.lane_runner.proofs.ClosedLemmas.{come-fits, come-spent, ended-come}
+use Rattle.lane_runner.proofs.Numbered.{at-least-one}
 use Rattle.lane_runner.proofs.RunLanes.{element_at}
 use Rattle.lane_runner.proofs.ThreadLemmas.{through-home}
-
--- a stack with a block on its top has one
-stack-there : (before after : List (List Block)) (stack : List Block) (class : ℕ) → length before ≡ class → stack_at (before ++ stack ∷ after) class ≡ stack
-stack-there [] after stack zero is = refl
-stack-there [] after stack (suc class) is = absurd (omega (arith, is))
-stack-there (x ∷ before) after stack zero is = absurd (omega (arith, is))
-stack-there (x ∷ before) after stack (suc class) is = stack-there before after stack class (omega (arith, is))
-
-top-some : (class : ℕ) (block : Block) (more less : List (List Block)) → HasOnTop class block more less → 0 < length (stack_at more class)
-top-some class block more less top =
-    let stack = top.stack ++ block ∷ [] in
-    let is : stack_at more class ≡ stack =
-    ap (λ (l : List (List Block)). stack_at l class) top.with_it ∙ stack-there top.before top.after stack class top.number in
-    subst (λ (l : List Block). 0 < length l) (sym is) (omega (arith, length-append top.stack (block ∷ [])))
+use Rattle.lane_runner.proofs.ClosedLemmas.{ended-fitted}
+use Rattle.lane_runner.proofs.Places.{not-served, served-by}
 
 -- a call through a cache without depth is its pass's
 bare-call :
@@ -54,7 +41,11 @@ bare-call :
 bare-call h c d call answer (none, rests) (whole, deep) = (
   elim whole.made [
     | served words block is_alloc is_given has ↦
-        absurd ((no-depth h c (need_of words) rests.0 none).0 (has.class, has.small, top-some has.class block (stacks_in c) (stacks_in d) has.top))
+        absurd (
+        let none_has : None ≡ Some block.place =
+        sym (not-served c (need_of words) (no-depth h c (need_of words) rests.0 none).0) ∙ served-by c d words block has in
+        cc
+        )
     | kept block is_free is_freed held room has ↦ absurd ((no-depth h c block.need rests.0 none).1 room)
     | asked asks made keeps ↦ (made.0, made.1, made.3)
   ],
@@ -62,14 +53,10 @@ bare-call h c d call answer (none, rests) (whole, deep) = (
 )
 
 -- and nothing is left to be freed
-no-blocks : (blocks : List Block) → length blocks ≤ 0 → blocks ≡ []
-no-blocks [] none = refl
-no-blocks (block ∷ blocks) none = absurd (omega (arith, none))
-
 none-leave : (class : ℕ) (magazines : List (Vec Block Global)) → AreMagazines (λ (b : Block). b.need) class 0 magazines → leaving (stacks_of magazines) ≡ []
 none-leave class [] are = refl
 none-leave class (m ∷ magazines) are =
-    ap (λ (l : List Block). reverse l ++ leaving (stacks_of magazines)) (no-blocks m.items are.0.few) ∙ none-leave (suc class) magazines are.1
+    ap (λ (l : List Block). reverse l ++ leaving (stacks_of magazines)) (nil_from_length m.items (omega (arith, are.0.few))) ∙ none-leave (suc class) magazines are.1
 
 none-freed : (h : HeapFields) (c : Cache) (q : Pass) → c.magazines.depth ≡ 0 → RestsAt h c → LeadsBy (HasEndedAt h) c.pass (frees_of (leaving (stacks_in c))) q → q ≡ c.pass
 none-freed h c q none rests frees =
@@ -84,10 +71,9 @@ bare-ended h operations lane p outcomes hits ended =
     let c = ended.cache in
     let e = ended.ended in
     let first = e.first in
-    let come = ended-come h 0 operations lane outcomes c e in
+    let fitted = ended-fitted h 0 operations lane outcomes c e in
     let rests = e.through.rests in
-    let fit = fits-plain (setting_in (seen c.pass) lane h.layout.turn_limit c.pass.errand.lost) operations outcomes c.hits
-    (come-fits h 0 operations lane outcomes c come) in
+    let fit = fits-plain (setting_in (seen c.pass) lane h.layout.turn_limit c.pass.errand.lost) operations outcomes c.hits fitted.fits in
     let made = made-of (IsCachedCall h) (WholeAt h) (λ (x : Cache). x.pass) (λ (x : Cache). (x.magazines.depth ≡ 0) × RestsAt h x) (bare-call h) _ operations outcomes first e.through.ran (e.opened.deep, e.opened.rests)
     e.through.made in
     let same : c.pass ≡ e.through.ran.pass = none-freed h e.through.ran c.pass made.1.0 made.1.1 e.through.emptied.frees in
@@ -95,10 +81,10 @@ bare-ended h operations lane p outcomes hits ended =
       of = rests.0.hand.of;
       idle = rests.1;
       home = through-home h 0 operations lane outcomes c e;
-      caller = come.caller;
+      caller = fitted.caller;
       all = e.all;
       fit = fit.0;
-      spent = come-spent h 0 operations lane outcomes c come;
+      spent = fitted.spent;
       calls =
           record {
             first = first.pass;

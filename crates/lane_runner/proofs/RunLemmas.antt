@@ -1,10 +1,9 @@
 -- Advances of one lane on a machine, one after another.
-use Rattle.std.proofs.Common.{ℕ, ◌≡◌, ◌<◌, ◌+◌, Bool, true, false, if◌then◌else◌, List, [], ◌∷◌, ◌++◌, length, refl, sym, ap, ◌∙◌, subst, inl, inr, arith, append_assoc}
+use Rattle.std.proofs.Common.{ℕ, ◌≡◌, ◌+◌, Bool, true, false, if◌then◌else◌, List, [], ◌∷◌, ◌++◌, length, refl, sym, ap, ◌∙◌, subst, inl, inr, arith, append_assoc}
 use Rattle.std.proofs.lemmas.Bool.{true≢false}
 use Rattle.std.specs.Prelude.{All, count_by}
 use Rattle.std.proofs.lemmas.List.{append-nil}
 use Rattle.std.proofs.lemmas.List.Elements.{All-nil, All-append}
-use Rattle.heap_geometry.specs.declared.geometry.Geometry.{Geometry}
 use Rattle.trace_text.specs.declared.trace.Op.{Op}
 use Rattle.errand_steps.specs.Begins.{IsIdle}
 use Rattle.errand_steps.specs.Calls.{take as take_call}
@@ -22,8 +21,7 @@ use Rattle.trace_lane.specs.Advances.{AdvancesOn, HasAdvanced}
 use Rattle.trace_lane.specs.Scripts.{script_left}
 use Rattle.trace_lane.proofs.AdvanceLemmas.{calls-append, leads-append, steps-append}
 use Rattle.trace_lane.specs.States.{IsLaneOn, StandsOn}
-use Rattle.step_machine.proofs.MomentLemmas.{same-seen}
-use Rattle.trace_lane.proofs.EndedLemmas.{lane-resting, seen-then}
+use Rattle.trace_lane.proofs.EndedLemmas.{lane-resting}
 
 -- the callers that made steps, of moves one after the other
 pub steppers-append : (first second : List Move) → steppers_of (first ++ second) ≡ steppers_of first ++ steppers_of second
@@ -44,7 +42,6 @@ ran-none {c = c} {operations = operations} {lane = lane} stands = record {
   counts = refl;
   calls = λ calls on. subst (IsLaneOn c operations lane) (sym (append-nil calls)) on;
   stands = stands;
-  others = λ other has apart. (refl, same-seen other c.events c.events refl);
   still = λ ended. (refl, ended);
   gate = λ gone. gone;
 }
@@ -70,11 +67,6 @@ ran-more {a = a} {b = b} {c = c} {operations = operations} {old = old} {mid = mi
           ∙ ap (λ xs. calls ++ xs) (sym (calls-append old.caller h.moves k.moves)) in
           subst (IsLaneOn c operations new) same next;
       stands = k.stands;
-      others = λ other has apart.
-          let first = h.others other has apart in
-          let second =
-          k.others other (subst (λ (g : Geometry). other < g.callers) (sym h.heap) has) (λ is. apart (is ∙ h.caller)) in
-          (second.0 ∙ first.0, seen-then other a.events b.events c.events first.1 second.1);
       still = λ ended.
           let first = h.still ended in
           let second = k.still first.1 in
@@ -145,7 +137,6 @@ advanced-ran {passed = passed} {c = c} {after = after} {operations = operations}
   counts = goes.advanced.one_step;
   calls = goes.advanced.script;
   stands = goes.stands;
-  others = λ other has apart. goes.others other apart;
   still = λ ended.
       let stays = ended-stays c after operations old new made stands goes.advanced ended in
       (ap (λ b. if b then 1 else 0) stays.0, stays.1);

@@ -1,9 +1,9 @@
 -- The operations of a lane through a cache, one after the other.
-use Rattle.std.proofs.Common.{ℕ, ◌≡◌, ◌<◌, ◌≤◌, ◌+◌, ◌^◌, ◌∷◌, ◌++◌, List, [], Option, Some, None, length, refl, sym, ap, ◌∙◌, subst, arith}
+use Rattle.std.proofs.Common.{ℕ, ◌≡◌, ◌<◌, ◌≤◌, ◌+◌, ◌^◌, ◌∷◌, ◌++◌, List, [], Option, Some, None, length, refl, sym, ap, ◌∙◌, subst, arith, inl, inr}
 use Rattle.pool_model.specs.declared.event.Event.{Event}
 use Rattle.errand_steps.specs.declared.reply.Reply.TheVariants as reply
-use Rattle.errand_steps.specs.Calls.{put, take}
-use Rattle.sound_laws.specs.events.Made.{LeadsBy, Made, answered, found_from, wrote}
+use Rattle.errand_steps.specs.Calls.{alloc}
+use Rattle.sound_laws.specs.events.Made.{LeadsBy, Made, answered}
 use Rattle.live_heap.specs.Heaps.{HeapFields}
 use Rattle.live_heap.specs.Passes.{seen}
 use Rattle.trace_text.specs.declared.trace.Op.{Op}
@@ -24,75 +24,113 @@ use Rattle.trace_lane.proofs.AnswerLemmas.{HasMovedOn}
 use Rattle.trace_lane.proofs.CallerLemmas.{moved-none, moved-then}
 use Rattle.lane_engine.proofs.KeptLemmas.{cached-laws}
 use Rattle.lane_engine.proofs.LeadsLemmas.{leads-of}
-use Rattle.trace_lane.proofs.EachCall.{all-found, all-takes, all-wrote}
+use Rattle.trace_lane.proofs.EachCall.{all-found, all-takes, all-wrote, AllCalls}
 use Rattle.trace_lane.proofs.HoldsLemmas.{op-holds}
 use Rattle.trace_lane.proofs.WalkLemmas.{between-next}
 use Rattle.trace_lane.proofs.TurnLemmas.{cached-answered}
-use Rattle.lane_runner.proofs.CallLemmas.{caller_in, plain}
+use Rattle.lane_runner.proofs.CallLemmas.{caller_in, plain, IsPlain, alloc-by, plain-leads}
 use Rattle.lane_runner.proofs.GivenLemmas.{freed, given, resized}
-use Rattle.lane_runner.proofs.Places.{places_in}
-use Rattle.lane_runner.proofs.RowLemmas.{HasGone, IsBetween, holds-plain, plain-gone, setting_at, stands_at, ungiven}
+use Rattle.lane_runner.proofs.Places.{places_in, not-served, same-places}
+use Rattle.lane_runner.proofs.RowLemmas.{HasGone, IsBetween, holds-plain, setting_at, stands_at}
+use Rattle.heap_geometry.specs.Need.{need_of}
+use Rattle.errand_steps.specs.declared.reply.Reply.{Reply}
+use Rattle.live_heap.specs.declared.block.Block.{Block}
+use Rattle.lane_outcomes.specs.Magazines.{served_by}
+use Rattle.lane_outcomes.specs.Rows.{FitsRow}
+use Rattle.block_cache.specs.Caches.{KeepsMagazines}
+use Rattle.trace_lane.proofs.RowLemmas.{HasGone as HasGoneOn, op-gone}
 
--- an operation that was made
 module _ (h : HeapFields) (c d : Cache) (base : Position) (st : IsBetween h c base) where
+  abbrev depth : ℕ
+  depth = c.magazines.depth
+
   abbrev Leads : List Made → Type 0
   Leads made = LeadsBy (IsCachedCall h) c made d
 
+  -- the heap was asked alone: the row is that of a lane on the pass
+  gone-plain :
+      (operation : Op) (result : Outcome) → (gone : HasGoneOn h.layout (caller_in c) (caller_in d) base operation result) → KeepsMagazines c d
+      → CachedRow (setting_at h c d) depth (stands_at c base) operation result gone.piece → served_for (places_in c) operation result ≡ None
+      → magazines_after depth (places_in c) base.registers operation result ≡ places_in c → HasGone h c d base operation result
+  gone-plain operation result gone keeps row none same = record {
+    piece = gone.piece;
+    added = gone.added;
+    row = row;
+    magazines = same-places c d keeps ∙ sym same;
+    hits = λ less. keeps.hits ∙ (let no_hit : hit_of (served_for (places_in c) operation result) ≡ 0 = ap hit_of none in omega (arith, no_hit));
+    spent = gone.spent;
+  }
+
+  -- no magazine has to do with it
+  plain-gone :
+      {operation : Op} {result : Outcome} {slot : Option HeldBlock} {made calls : List Made} → held_in base.registers (register_of operation) ≡ slot
+      → MadeFor slot operation result made → made ≡ calls → AllCalls IsPlain calls → Leads made
+      → ((piece : List Event) → FitsRow (setting_at h c d) base operation result piece
+      → CachedRow (setting_at h c d) depth (stands_at c base) operation result piece)
+      → served_for (places_in c) operation result ≡ None → magazines_after depth (places_in c) base.registers operation result ≡ places_in c
+      → HasGone h c d base operation result
+  plain-gone {operation = operation} {result = result} {slot = slot} {made = made} is for are plain leads row none same =
+      let a = plain-leads h made c d (subst (AllCalls IsPlain) (sym are) plain) st.rests leads in
+      let gone = op-gone h.layout (caller_in c) (caller_in d) base st.plain operation result slot made is for a.leads in
+      gone-plain operation result gone a.keeps (row gone.piece gone.row) none same
+
+  -- an allocation was given no block: no magazine had one for it, and the heap was asked alone
+  ungiven :
+      {operation : Op} {result : Outcome} {slot : Option HeldBlock} (need : ℕ) (answer : Reply)
+      → held_in base.registers (register_of operation) ≡ slot
+      → MadeFor slot operation result (answered (alloc need) answer ∷ []) → Leads (answered (alloc need) answer ∷ [])
+      → ((block : Block) → answer ≡ reply.Given block.place block.need → ⊥)
+      → (served_by (places_in c) (need_of need) ≡ None → (piece : List Event) → FitsRow (setting_at h c d) base operation result piece
+      → CachedRow (setting_at h c d) depth (stands_at c base) operation result piece)
+      → served_for (places_in c) operation result ≡ None → magazines_after depth (places_in c) base.registers operation result ≡ places_in c
+      → HasGone h c d base operation result
+  ungiven {operation = operation} {result = result} {slot = slot} need answer is for leads not row none same =
+      elim (alloc-by h c d need answer (subst (λ x. IsCachedCall h c (alloc need) answer x) (sym leads.2) leads.1)) [
+        | inl (block, given, has) ↦ absurd (not block given)
+        | inr (no_block, one, keeps) ↦
+            let gone =
+            op-gone h.layout (caller_in c) (caller_in d) base st.plain operation result slot (answered (alloc need) answer ∷ []) is for (caller_in d, one, refl) in
+            gone-plain operation result gone keeps (row (not-served c (need_of need) no_block) gone.piece gone.row) none same
+      ]
+
+  -- an operation that was made
   op-through :
       (operation : Op) (result : Outcome) (slot : Option HeldBlock) (made : List Made) → held_in base.registers (register_of operation) ≡ slot
       → MadeFor slot operation result made → Leads made → HasGone h c d base operation result
-  op-through (op.Alloc r need v) outcome.Skipped slot made is for leads =
-      plain-gone h c d base st (op.Alloc r need v) outcome.Skipped slot made [] is for for.1 tt leads (λ piece row. row) refl refl
-  op-through (op.Take r shelf) outcome.Skipped slot made is for leads =
-      plain-gone h c d base st (op.Take r shelf) outcome.Skipped slot made [] is for for.1 tt leads (λ piece row. row) refl refl
-  op-through (op.Free r) outcome.Skipped slot made is for leads =
-      plain-gone h c d base st (op.Free r) outcome.Skipped slot made [] is for for.1 tt leads (λ piece row. row) refl refl
-  op-through (op.Fill r v) outcome.Skipped slot made is for leads =
-      plain-gone h c d base st (op.Fill r v) outcome.Skipped slot made [] is for for.1 tt leads (λ piece row. row) refl refl
-  op-through (op.Check r) outcome.Skipped slot made is for leads =
-      plain-gone h c d base st (op.Check r) outcome.Skipped slot made [] is for for.1 tt leads (λ piece row. row) refl refl
-  op-through (op.Put r shelf) outcome.Skipped slot made is for leads =
-      plain-gone h c d base st (op.Put r shelf) outcome.Skipped slot made [] is for for.1 tt leads (λ piece row. row) refl refl
-  op-through (op.Resize r need) outcome.Skipped slot made is for leads =
-      plain-gone h c d base st (op.Resize r need) outcome.Skipped slot made [] is for for.1 tt leads (λ piece row. row) refl refl
+  op-through (op.Alloc r need v) outcome.Skipped slot made is for leads = plain-gone is for for.1 tt leads (λ piece row. row) refl refl
+  op-through (op.Take r shelf) outcome.Skipped slot made is for leads = plain-gone is for for.1 tt leads (λ piece row. row) refl refl
+  op-through (op.Free r) outcome.Skipped slot made is for leads = plain-gone is for for.1 tt leads (λ piece row. row) refl refl
+  op-through (op.Fill r v) outcome.Skipped slot made is for leads = plain-gone is for for.1 tt leads (λ piece row. row) refl refl
+  op-through (op.Check r) outcome.Skipped slot made is for leads = plain-gone is for for.1 tt leads (λ piece row. row) refl refl
+  op-through (op.Put r shelf) outcome.Skipped slot made is for leads = plain-gone is for for.1 tt leads (λ piece row. row) refl refl
+  op-through (op.Resize r need) outcome.Skipped slot made is for leads = plain-gone is for for.1 tt leads (λ piece row. row) refl refl
   op-through (op.Alloc r need v) (outcome.Given words place) None made is (words_are, calls) leads =
       given h c d base st r need v words place is words_are (subst Leads calls leads)
   op-through (op.Alloc r need v) outcome.Refused None made is calls leads =
-      ungiven h c d base st (op.Alloc r need v) outcome.Refused None need reply.Refused is refl (subst Leads calls leads) (λ block given. cc)
-      (λ none piece row. (none, row)) refl refl
+      ungiven need reply.Refused is refl (subst Leads calls leads) (λ block given. cc) (λ none piece row. (none, row)) refl refl
   op-through (op.Alloc r need v) outcome.Spent None made is calls leads =
-      ungiven h c d base st (op.Alloc r need v) outcome.Spent None need reply.Spent is refl (subst Leads calls leads) (λ block given. cc)
-      (λ none piece row. (none, row)) refl refl
+      ungiven need reply.Spent is refl (subst Leads calls leads) (λ block given. cc) (λ none piece row. (none, row)) refl refl
   op-through (op.Free r) outcome.Freed (Some held) made is (words, calls) leads = freed h c d base st r held is (subst Leads calls leads)
   op-through (op.Fill r v) outcome.Filled (Some held) made is (words, calls) leads =
-      plain-gone h c d base st (op.Fill r v) outcome.Filled (Some held) made (wrote held.place held.need v held.words) is (words, calls) calls
-      (all-wrote plain held.place held.need v held.words) leads (λ piece row. row) refl refl
+      plain-gone is (words, calls) calls (all-wrote plain held.place held.need v held.words) leads (λ piece row. row) refl refl
   op-through (op.Check r) (outcome.Sum total) (Some held) made is (words_are, (words, all, total_is, calls)) leads =
-      plain-gone h c d base st (op.Check r) (outcome.Sum total) (Some held) made (found_from held.place held.need 0 words) is
-      (words_are, (words, all, total_is, calls)) calls (all-found plain held.place held.need 0 words) leads (λ piece row. row) refl refl
+      plain-gone is (words_are, (words, all, total_is, calls)) calls (all-found plain held.place held.need 0 words) leads (λ piece row. row) refl refl
   op-through (op.Put r shelf) outcome.Put (Some held) made is (words, calls) leads =
-      plain-gone h c d base st (op.Put r shelf) outcome.Put (Some held) made (answered (put held.place held.need shelf) reply.Put ∷ []) is (words, calls) calls
-      ((λ tried. tried), tt) leads (λ piece row. row) refl refl
+      plain-gone is (words, calls) calls ((λ tried. tried), tt) leads (λ piece row. row) refl refl
   op-through (op.Put r shelf) outcome.ShelfFull (Some held) made is (words, (found, calls)) leads =
-      plain-gone h c d base st (op.Put r shelf) outcome.ShelfFull (Some held) made (answered (put held.place held.need shelf) (reply.Full found) ∷ []) is
-      (words, (found, calls)) calls ((λ tried. tried), tt) leads (λ piece row. row) refl refl
+      plain-gone is (words, (found, calls)) calls ((λ tried. tried), tt) leads (λ piece row. row) refl refl
   op-through (op.Take r shelf) (outcome.Took words place need) None made is (misses, are, words_are, calls) leads =
-      plain-gone h c d base st (op.Take r shelf) (outcome.Took words place need) None made (misses ++ answered (take shelf) (reply.Got place need) ∷ []) is
-      (misses, are, words_are, calls) calls (all-takes plain shelf misses (reply.Got place need) are) leads (λ piece row. row) refl refl
+      plain-gone is (misses, are, words_are, calls) calls (all-takes plain shelf misses (reply.Got place need) are) leads (λ piece row. row) refl refl
   op-through (op.Take r shelf) outcome.ShelfEmpty None made is (misses, are, calls) leads =
-      plain-gone h c d base st (op.Take r shelf) outcome.ShelfEmpty None made (misses ++ answered (take shelf) reply.Empty ∷ []) is (misses, are, calls) calls
-      (all-takes plain shelf misses reply.Empty are) leads (λ piece row. row) refl refl
+      plain-gone is (misses, are, calls) calls (all-takes plain shelf misses reply.Empty are) leads (λ piece row. row) refl refl
   op-through (op.Resize r need) (outcome.Kept words place) (Some held) made is (serves, words_are, place_is, calls) leads =
-      plain-gone h c d base st (op.Resize r need) (outcome.Kept words place) (Some held) made [] is (serves, words_are, place_is, calls) calls tt leads
-      (λ piece row. row) refl refl
+      plain-gone is (serves, words_are, place_is, calls) calls tt leads (λ piece row. row) refl refl
   op-through (op.Resize r need) (outcome.Resized words place) (Some held) made is (differ, words_are, has, found, all, calls) leads =
       resized h c d base st r need words place held found is differ words_are has all (subst Leads calls leads)
   op-through (op.Resize r need) outcome.Refused (Some held) made is (differ, calls) leads =
-      ungiven h c d base st (op.Resize r need) outcome.Refused (Some held) need reply.Refused is (differ, refl) (subst Leads calls leads) (λ block given. cc)
-      (λ none piece row. (none, row)) refl refl
+      ungiven need reply.Refused is (differ, refl) (subst Leads calls leads) (λ block given. cc) (λ none piece row. (none, row)) refl refl
   op-through (op.Resize r need) outcome.Spent (Some held) made is (differ, calls) leads =
-      ungiven h c d base st (op.Resize r need) outcome.Spent (Some held) need reply.Spent is (differ, refl) (subst Leads calls leads) (λ block given. cc)
-      (λ none piece row. (none, row)) refl refl
+      ungiven need reply.Spent is (differ, refl) (subst Leads calls leads) (λ block given. cc) (λ none piece row. (none, row)) refl refl
   op-through operation result None made is calls leads = absurd calls
   op-through operation result (Some held) made is calls leads = absurd calls
 

@@ -1,14 +1,15 @@
 //! The lanes of a trace on one machine, in the order that the trace gives.
 
-ghost use Rattle.std.specs.Prelude.{ℕ, ◌≡◌, ◌<◌, ◌≤◌, ◌∷◌, List, [], IfOk, OnErr, OnOk, map, length};
+ghost use Rattle.std.specs.Prelude.{ℕ, ◌≡◌, ◌<◌, ◌≤◌, ◌+◌, ◌∷◌, List, IfOk, OnErr, OnOk, map, length};
 ghost use Rattle.std.specs.List.{All};
 ghost use Rattle.trace_text.specs.Traces.{IsTrace, IsOp, IsOrder};
 ghost use Rattle.errand_steps.specs.Openings.{opening};
+ghost use Rattle.sound_state.specs.Runs.{Move};
 ghost use Rattle.step_machine.specs.Openings.{IsOpened};
 ghost use Rattle.lane_outcomes.specs.Passed.{AllPassed};
 ghost use Rattle.lane_runner.specs.Driven.{IsDriven, IsDrivenSoFar};
 ghost use Rattle.lane_runner.specs.Orders.{InOrder, OneByOne};
-ghost use Rattle.lane_runner.specs.Running.{HasRun, HasRunOut, HasRunSome, HaveFinished, HaveFollowed, HaveRunSo, LanesStand, OneRan, OneRanOut};
+ghost use Rattle.lane_runner.specs.Running.{HasRun, HasRunOut, HasRunSome, HaveFinished, HaveRunBefore, LanesRan};
 ghost use Rattle.trace_lane.specs.States.{StandsOn};
 
 use crate::lanes::{lane_of, open_lanes};
@@ -64,7 +65,7 @@ fn run_to_end<G: Gate>(
     }
 }
 
-/// Makes one order run.
+/// Makes one order run, behind those before it.
 fn follow_run<G: Gate>(
     gate: &G,
     trace: &Trace,
@@ -74,11 +75,13 @@ fn follow_run<G: Gate>(
 ) -> Result<(), AllocError>
     requires trace { IsTrace trace.now }
     requires order { IsOrder trace.now.lanes run }
-    requires stand { LanesStand trace.now core.old lanes.old.items }
-    ensures ran { OnOk result (HaveFollowed (G.passed gate.now) trace.now (run ∷ []) core.old core.new lanes.old.items lanes.new.items) }
-    ensures stopped { OnErr result
-        (HaveRunSo (G.passed gate.now) trace.now (λ made. (later : List OrderRun) → InOrder (run ∷ later) (length trace.now.lanes) made)
-        core.old core.new lanes.old.items lanes.new.items) }
+    requires stand { (moves : List Move) × LanesRan (G.passed gate.now) trace.now core.old lanes.old.items moves }
+    ensures ran { OnOk result ((later : List OrderRun)
+        → HaveRunBefore (G.passed gate.now) trace.now (InOrder (run ∷ later) (length trace.now.lanes)) core.old lanes.old.items
+        → HaveRunBefore (G.passed gate.now) trace.now (InOrder later (length trace.now.lanes)) core.new lanes.new.items) }
+    ensures stopped { OnErr result ((later : List OrderRun)
+        → HaveRunBefore (G.passed gate.now) trace.now (InOrder (run ∷ later) (length trace.now.lanes)) core.old lanes.old.items
+        → IsDrivenSoFar trace.now trace.now.orders core.new) }
     ensures geometry { core.new.geometry ≡ core.old.geometry }
 {
     let lane = usize::from(run.lane);
@@ -99,11 +102,9 @@ fn follow_runs<G: Gate>(
     core: &mut Core,
 ) -> Result<(), AllocError>
     requires trace { IsTrace trace.now }
-    requires stand { LanesStand trace.now core.old lanes.old.items }
-    ensures ran { OnOk result (HaveFollowed (G.passed gate.now) trace.now trace.now.orders core.old core.new lanes.old.items lanes.new.items) }
-    ensures stopped { OnErr result
-        (HaveRunSo (G.passed gate.now) trace.now (InOrder trace.now.orders (length trace.now.lanes))
-        core.old core.new lanes.old.items lanes.new.items) }
+    requires run { HaveRunBefore (G.passed gate.now) trace.now (InOrder trace.now.orders (length trace.now.lanes)) core.old lanes.old.items }
+    ensures ran { OnOk result (HaveRunBefore (G.passed gate.now) trace.now (OneByOne 0 (length trace.now.lanes)) core.new lanes.new.items) }
+    ensures stopped { OnErr result (IsDrivenSoFar trace.now trace.now.orders core.new) }
     ensures geometry { core.new.geometry ≡ core.old.geometry }
 {
     for run in trace.orders.as_slice() {
@@ -112,7 +113,7 @@ fn follow_runs<G: Gate>(
     Ok(())
 }
 
-/// Runs one lane to its end.
+/// Runs one lane to its end, behind those before it.
 fn finish_lane<G: Gate>(
     gate: &G,
     trace: &Trace,
@@ -122,10 +123,9 @@ fn finish_lane<G: Gate>(
 ) -> Result<(), AllocError>
     requires trace { IsTrace trace.now }
     requires lane { lane < length trace.now.lanes }
-    requires stand { LanesStand trace.now core.old lanes.old.items }
-    ensures ran { OnOk result (OneRanOut (G.passed gate.now) trace.now core.old core.new lanes.old.items lanes.new.items lane) }
-    ensures stopped { OnErr result
-        ((made : ℕ) × OneRan (G.passed gate.now) trace.now core.old core.new lanes.old.items lanes.new.items lane made) }
+    requires finished { HaveFinished (G.passed gate.now) trace.now lane core.old lanes.old.items }
+    ensures ran { OnOk result (HaveFinished (G.passed gate.now) trace.now (lane + 1) core.new lanes.new.items) }
+    ensures stopped { OnErr result (IsDrivenSoFar trace.now trace.now.orders core.new) }
     ensures geometry { core.new.geometry ≡ core.old.geometry }
 {
     run_to_end(gate, lane_of(trace, lane), &mut lanes[lane], core)
@@ -139,11 +139,9 @@ fn finish_lanes<G: Gate>(
     core: &mut Core,
 ) -> Result<(), AllocError>
     requires trace { IsTrace trace.now }
-    requires stand { LanesStand trace.now core.old lanes.old.items }
-    ensures ran { OnOk result
-        (HaveFinished (G.passed gate.now) trace.now (length trace.now.lanes) core.old core.new lanes.old.items lanes.new.items) }
-    ensures stopped { OnErr result
-        (HaveRunSo (G.passed gate.now) trace.now (OneByOne 0 (length trace.now.lanes)) core.old core.new lanes.old.items lanes.new.items) }
+    requires run { HaveRunBefore (G.passed gate.now) trace.now (OneByOne 0 (length trace.now.lanes)) core.old lanes.old.items }
+    ensures ran { OnOk result (HaveFinished (G.passed gate.now) trace.now (length trace.now.lanes) core.new lanes.new.items) }
+    ensures stopped { OnErr result (IsDrivenSoFar trace.now trace.now.orders core.new) }
     ensures geometry { core.new.geometry ≡ core.old.geometry }
 {
     for lane in 0..trace.lanes.len() {

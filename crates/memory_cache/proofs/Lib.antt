@@ -1,3 +1,4 @@
+pub mod ChainLemmas
 pub mod KeptLemmas
 pub mod PageLemmas
 pub mod PageSizes

@@ -41,6 +41,18 @@ tells-number number size inverse some is few =
     let least : number * more ≤ number * size = mul-le number more number size (omega arith) (omega arith) in
     ap (λ n. n / 4194304) (spread ∙ ap (λ n. number * n) once ∙ parts) ∙ div-mul-add number 4194304 (number * more) (omega arith)
 
+-- words have room for a piece that fits
+pub some-pieces : (size words : ℕ) → 0 < size → size ≤ words → 0 < words / size
+some-pieces size words some fits =
+    elim (cases_lt 0 (words / size)) [
+      | inl is ↦ is
+      | inr none ↦
+          let zero : words / size ≡ 0 = omega (arith, none) in
+          let nothing : 0 * size ≡ 0 = omega arith in
+          let times : words / size * size ≡ 0 = ap (λ q. q * size) zero ∙ nothing in
+          absurd (omega (arith, times, fits, div-add-mod' words size, mod_below words size some))
+    ]
+
 -- a page has at most 2047 pieces
 pub pieces-few : (size place : ℕ) (need : Need) → IsPageFor size place need → usable_words need / size < 2048
 pieces-few size place need is =
@@ -151,6 +163,16 @@ module _ (slots more : List Slot) (slot : Slot) (number : ℕ) (long : length sl
         | inl same ↦
             subst (λ j. slice_index_or more j Out ≢ Out) (sym same) (subst (λ (s : Slot). s ≢ Out) (sym slot-last) one)
         | inr ne ↦ subst (λ (s : Slot). s ≢ Out) (sym (slot-before k ne)) (all k (omega arith))
+      ]
+
+  -- the same up to the new one
+  pub each-more :
+      (P : ℕ → Slot → Type 0) → ((k : ℕ) → k < number → P k (slice_index_or slots k Out)) → P number slot
+      → (k : ℕ) → k < number + 1 → P k (slice_index_or more k Out)
+  each-more P all one k within =
+      elim (cases_eq k number) [
+        | inl same ↦ subst (λ j. P j (slice_index_or more j Out)) (sym same) (subst (P number) (sym slot-last) one)
+        | inr ne ↦ subst (P k) (sym (slot-before k ne)) (all k (omega arith))
       ]
 
 -- the last slot of those that are left of a page

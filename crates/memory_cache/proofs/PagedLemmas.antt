@@ -17,16 +17,17 @@ use Rattle.live_heap.specs.Holdings.{HoldsExactly}
 use Rattle.live_heap.specs.declared.plain.Memory.{Memory}
 use Rattle.memory_cache.specs.declared.cache.MemoryCache.{MemoryCache}
 use Rattle.memory_cache.specs.declared.page.Page.{Page}
+use Rattle.memory_cache.specs.declared.page.Slot.{Slot}
 use Rattle.memory_cache.specs.declared.page.Slot.TheVariants.{Out}
 use Rattle.memory_cache.specs.declared.paged.PagedCache.{PagedCache}
 use Rattle.memory_cache.specs.declared.piece.Piece.{Piece}
 use Rattle.memory_cache.specs.Asking.{HasSettled, LiesElsewhere, SendsHome}
 use Rattle.memory_cache.specs.Caches.{HasKept, HasRoom, IsCache, IsHeld, KeepsMagazines, kept_in}
-use Rattle.memory_cache.specs.Paged.{CameOf, GoesBehind, HasAt, HasCut, HasGiven, HasNewPage, HasPut, HasSameOut, HasSamePages, HasTakenIn, HasTold, IsOfPage, IsOut, IsOutBy, IsPageOf, IsPaged, IsReadyAt, PopsAt, PushesAt, SamePages, TakesBack, page_at}
+use Rattle.memory_cache.specs.Paged.{ActsBehind, CameOf, GoesBehind, HasAt, HasCut, HasGiven, HasNewPage, HasPut, HasSameOut, HasSamePages, HasTakenIn, HasTold, IsLastOut, IsOfPage, IsOtherReady, IsOut, IsOutBy, IsPageOf, IsPaged, IsReadyAt, IsWholeAt, PopsAt, PushesAt, SamePages, TakesBack, page_at, ready_for}
 use Rattle.memory_cache.specs.Pages.{AllHome, AreHere, IsNear, IsOutAt, IsPageFor, IsPiece, IsSamePage, count_of, first_of, slot_at}
 use Rattle.memory_cache.specs.Sizes.{page_words, piece_words}
 use Rattle.memory_cache.proofs.SettledLemmas.{pass-of}
-use Rattle.memory_cache.proofs.TableLemmas.{GoesOn, SameTable, at-is, at-keeps, at-only, at-out, at-set, elsewhere-back, elsewhere-keeps, elsewhere-on, elsewhere-only, for-same, out-on, out-same, page-back, page-on, page-popped, page-pushed, page-read, page-refl, page-same, pages-is, piece-popped, pops-fresh, pops-keeps, pops-only, pops-out, pushes-away, pushes-keeps, pushes-only, put-set, put-then, some-on, table-back, table-on, table-then, within-table}
+use Rattle.memory_cache.proofs.TableLemmas.{GoesOn, SameTable, at-is, at-keeps, at-only, at-out, at-set, elsewhere-back, elsewhere-keeps, elsewhere-on, elsewhere-only, for-same, last-home, out-on, out-same, page-back, page-on, page-popped, page-pushed, page-read, page-refl, page-same, pages-is, piece-popped, pops-fresh, pops-keeps, pops-only, pops-out, pushes-away, pushes-keeps, pushes-only, put-set, put-then, some-on, table-back, table-on, table-then, within-table}
 use Rattle.memory_cache.proofs.TakenPages.{done-with, nothing-taken, taken-one}
 
 -- where no page is, none is
@@ -541,6 +542,23 @@ takes-back h c d before after x is piece o at came cache items =
       );
     }
 
+-- each piece of a page is home where the last that was out came back
+pub pushed-whole :
+    (h : HeapFields) (c : PagedCache) (x : Piece) (before after : Option Page) → IsPaged h c → page_at c (x.first / 2048) ≡ before → PushesAt before x after
+    → IsLastOut c x.first → (q : Page) × (after ≡ Some q) × AllHome q
+pushed-whole h c x before after is read came last =
+    let k : ℕ = x.first / 2048 in
+    let p = came.page in
+    let there : page_at c k ≡ Some p = read ∙ came.there in
+    let one : last.page ≡ p = same_Some last.page p (sym last.there ∙ there) in
+    let w = is.pages k p there in
+    let Last : Page → Type 0 = λ y. (n : ℕ) → n < count_of y → first_of y n ≢ x.first → slot_at y n ≢ Out in
+    (came.left, came.now, last-home p x came.left came.pushes w.page.some (subst Last one last.last))
+
+-- another page that is ready stands in the table
+pub ready-within : (c : PagedCache) (k size : ℕ) → IsOtherReady c k size → ready_for c size < length c.pages.items
+ready-within c k size other = within-table c.pages.items (ready_for c size) other.1 other.2
+
 -- a piece that is out by its number is out
 pub out-by : (h : HeapFields) (c : PagedCache) (number first size : ℕ) → IsPaged h c → IsOutBy c number first size → IsOut c first size
 out-by h c number first size is o =
@@ -624,31 +642,46 @@ pushed-behind c d k p q cache there now place need =
     }
 
 -- what was done behind, seen from before and after such changes
+pub acts-through :
+    (h : HeapFields) (c b d e : PagedCache) (k tries : ℕ) → IsSameBehind c k b → ActsBehind h b k tries d → HasSamePages d e → ActsBehind h c k tries e
+acts-through h c b d e k tries s acts t =
+    let From : MemoryCache → MemoryCache → Type 0 = λ q r. HasSettled h q.pass tries false r.pass × KeepsMagazines q r in
+    elim acts [
+      | inl busy ↦ inl (subst (λ (q : MemoryCache). From q e.cache) s.cache (subst (From b.cache) (sym t.cache) busy))
+      | inr sent ↦
+          let p = s.page sent.page sent.there in
+          inr
+          (record {
+            page = p.0;
+            there = p.1;
+            gone = none-back (page_at e k) (page_at d k) (table-back d e t.pages k) sent.gone;
+            memory = sent.memory;
+            of = (sent.of.0 ∙ p.2, sent.of.1 ∙ p.3);
+            settled = sent.settled;
+            has_settled = subst (λ (q : MemoryCache). HasSettled h q.pass tries true sent.settled.pass × KeepsMagazines q sent.settled) s.cache sent.has_settled;
+            taken = subst (HasTakenIn h sent.settled sent.memory tries) (sym t.cache) sent.taken;
+          })
+    ]
+
 pub behind-through :
     (h : HeapFields) (c b d e : PagedCache) (k tries : ℕ) → IsSameBehind c k b → GoesBehind h b k tries d → HasSamePages d e → GoesBehind h c k tries e
 behind-through h c b d e k tries s g t =
-    let From : MemoryCache → MemoryCache → Type 0 = λ q r. HasSettled h q.pass tries false r.pass × KeepsMagazines q r in
     elim g [
       | inl same ↦ inl (t.cache ∙ same ∙ s.cache)
-      | inr more ↦
-          elim more [
-            | inl busy ↦ inr (inl (subst (λ (q : MemoryCache). From q e.cache) s.cache (subst (From b.cache) (sym t.cache) busy)))
-            | inr sent ↦
-                let p = s.page sent.page sent.there in
-                inr
-                (inr
-                (record {
-                  page = p.0;
-                  there = p.1;
-                  gone = none-back (page_at e k) (page_at d k) (table-back d e t.pages k) sent.gone;
-                  memory = sent.memory;
-                  of = (sent.of.0 ∙ p.2, sent.of.1 ∙ p.3);
-                  settled = sent.settled;
-                  has_settled = subst (λ (q : MemoryCache). HasSettled h q.pass tries true sent.settled.pass × KeepsMagazines q sent.settled) s.cache sent.has_settled;
-                  taken = subst (HasTakenIn h sent.settled sent.memory tries) (sym t.cache) sent.taken;
-                }))
-          ]
+      | inr acts ↦ inr (acts-through h c b d e k tries s acts t)
     ]
+
+-- a page that is whole is so behind a change of hints
+pub whole-on : (c d : PagedCache) (k : ℕ) → HasSamePages c d → IsWholeAt c k → IsWholeAt d k
+whole-on c d k s w =
+    let r = table-on c d s.pages k w.page w.there in
+    let slots = r.2.slots in
+    record {
+      page = r.0;
+      there = r.1;
+      home = λ n within.
+          subst (λ (l : List Slot). slice_index_or l n Out ≢ Out) (sym slots) (w.home n (subst (λ (l : List Slot). n < length l) slots within));
+    }
 
 -- what the cache behind took back, in its own words
 pub takes-in :

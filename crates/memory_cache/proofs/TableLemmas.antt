@@ -17,7 +17,7 @@ use Rattle.memory_cache.specs.declared.page.Slot.TheVariants.{Out, Home}
 use Rattle.memory_cache.specs.declared.paged.PagedCache.{PagedCache}
 use Rattle.memory_cache.specs.declared.piece.Piece.{Piece}
 use Rattle.memory_cache.specs.Paged.{HasAt, HasCut, HasPut, HasSamePages, IsOut, PopsAt, SamePages, page_at}
-use Rattle.memory_cache.specs.Pages.{AreHere, IsCut, IsOutAt, IsPage, IsPageFor, IsPiece, IsSameBut, IsSamePage, IsSlot, Pops, Pushes, count_of, first_of, slot_at}
+use Rattle.memory_cache.specs.Pages.{AllHome, AreHere, IsCut, IsOutAt, IsPage, IsPageFor, IsPiece, IsSameBut, IsSamePage, IsSlot, Pops, Pushes, count_of, first_of, slot_at}
 
 -- what a table has lies within it
 pub within-table : {A : Type 0} (xs : List (Option A)) (k : ℕ) (x : A) → slice_index_or xs k None ≡ Some x → k < length xs
@@ -146,6 +146,9 @@ module _ (p : Page) (x : Piece) (q : Page) (pops : Pops p x q) where
       other-back pops.number Out p q pops.same first o
       (λ one. away (o.there ∙ firsts p q pops.same.place pops.same.size o.number ∙ ap (first_of p) one ∙ sym pops.first))
 
+home-not-out : (words : PlainWords) (next : ℕ) → Home words next ≢ Out
+home-not-out words next same = cc
+
 -- a piece that comes home to a page
 module _ (p : Page) (x : Piece) (q : Page) (pushes : Pushes p x q) where
   pub pushes-keeps : (first : ℕ) → first ≢ x.first → IsOutAt p first → IsOutAt q first
@@ -167,6 +170,18 @@ module _ (p : Page) (x : Piece) (q : Page) (pushes : Pushes p x q) where
   pushes-away o =
       home-number x.first o
       (one-number q o.some o.number pushes.number (sym o.there ∙ pushes.first ∙ sym (firsts p q pushes.same.place pushes.same.size pushes.number)))
+
+  -- all are home where it was the last that was out
+  pub last-home : 0 < p.size → ((n : ℕ) → n < count_of p → first_of p n ≢ x.first → slot_at p n ≢ Out) → AllHome q
+  last-home some last n within =
+      let slot : Slot = Home x.words pushes.next in
+      elim (cases_eq n pushes.number) [
+        | inl one ↦ λ out. home-not-out x.words pushes.next (sym (ap (slot_at q) one ∙ slot-here pushes.number slot p q pushes.same pushes.within) ∙ out)
+        | inr ne ↦
+            let other : slot_at q n ≡ slot_at p n = slot-other pushes.number slot p q pushes.same n ne in
+            let was : n < count_of p = subst (λ k. n < k) (count-same pushes.number slot p q pushes.same) within in
+            λ out. last n was (λ same. ne (one-number p some n pushes.number (same ∙ pushes.first))) (sym other ∙ out)
+      ]
 
 -- the second page lies where the first one lies, with as many words in pieces of the same size, and is a page where that is
 pub record GoesOn (h : HeapFields) (p q : Page) : Type 0 where

@@ -1,5 +1,6 @@
 pub mod Asking
 pub mod Caches
+pub mod Chains
 pub mod Paged
 pub mod Pages
 pub mod Rooms

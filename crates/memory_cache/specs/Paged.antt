@@ -1,5 +1,5 @@
 -- A paged cache in front of a heap.
-use Rattle.std.specs.Prelude.{ℕ, ◌≡◌, ◌≢◌, ◌≤◌, ◌*◌, ◌/◌, ◌%◌, ◌⊎◌, true, false, Option, Some, None, Result, Ok, IfOk, slice_index, slice_index_or}
+use Rattle.std.specs.Prelude.{ℕ, ◌≡◌, ◌≢◌, ◌<◌, ◌≤◌, ◌*◌, ◌/◌, ◌%◌, ◌⊎◌, true, false, Option, Some, None, Result, Ok, IfOk, slice_index, slice_index_or}
 use Rattle.std.specs.declared.alloc.AllocError.{AllocError}
 use Rattle.heap_geometry.specs.Need.{need_of}
 use Rattle.live_heap.specs.declared.answers.AllocAnswer.{AllocAnswer}
@@ -14,7 +14,7 @@ use Rattle.memory_cache.specs.declared.paged.PagedCache.{PagedCache}
 use Rattle.memory_cache.specs.declared.piece.Piece.{Piece}
 use Rattle.memory_cache.specs.Asking.{HasSettled, SendsHome, TakeTells}
 use Rattle.memory_cache.specs.Caches.{HasFor, HasKept, HasRoom, HasServed, IsCache, IsHeld, KeepsMagazines}
-use Rattle.memory_cache.specs.Pages.{IsCut, IsOutAs, IsOutAt, IsPage, IsPageFor, IsPiece, IsSamePage, Pops, Pushes, slot_at}
+use Rattle.memory_cache.specs.Pages.{AllHome, HasTwoHome, IsCut, IsOutAs, IsOutAt, IsPage, IsPageFor, IsPiece, IsSamePage, Pops, Pushes, count_of, first_of, slot_at}
 use Rattle.memory_cache.specs.Sizes.{page_words, piece_words, size_number}
 
 -- the page whose place in the table is the k-th
@@ -78,6 +78,13 @@ pub record IsReadyAt (c : PagedCache) (k size : ℕ) : Type 0 where
 -- the page that is ready with pieces of this size is there, and has one
 abbrev pub HasPieceReady : PagedCache → ℕ → Type 0
 HasPieceReady c size = IsReadyAt c (ready_for c size) size
+
+-- the same, and it has two or more
+pub record HasTwoReady (c : PagedCache) (size : ℕ) : Type 0 where
+  pub page : Page
+  pub there : page_at c (ready_for c size) ≡ Some page
+  pub sized : page.size ≡ size
+  pub home : HasTwoHome page
 
 -- in the k-th place of the table is this page now, or none, and nothing else has changed but ways to find what is home
 pub record HasAt (c : PagedCache) (k : ℕ) (page : Option Page) (d : PagedCache) : Type 0 where
@@ -162,10 +169,30 @@ pub record HasSentPage (h : HeapFields) (c : PagedCache) (k tries : ℕ) (d : Pa
   pub has_settled : HasSettled h c.cache.pass tries true settled.pass × KeepsMagazines c.cache settled
   pub taken : HasTakenIn h settled memory tries d.cache
 
--- what a piece that comes home to the k-th page does behind: nothing; or it goes on with the call under way, which doesn't end; or the page is gone
+-- the call under way was gone on with, which doesn't end; or the page in the k-th place is gone
+abbrev pub ActsBehind : HeapFields → PagedCache → ℕ → ℕ → PagedCache → Type 0
+ActsBehind h c k tries d = (HasSettled h c.cache.pass tries false d.cache.pass × KeepsMagazines c.cache d.cache) ⊎ HasSentPage h c k tries d
+
+-- what a piece that comes home to the k-th page does behind: nothing, or that
 abbrev pub GoesBehind : HeapFields → PagedCache → ℕ → ℕ → PagedCache → Type 0
-GoesBehind h c k tries d =
-    (d.cache ≡ c.cache) ⊎ ((HasSettled h c.cache.pass tries false d.cache.pass × KeepsMagazines c.cache d.cache) ⊎ HasSentPage h c k tries d)
+GoesBehind h c k tries d = (d.cache ≡ c.cache) ⊎ ActsBehind h c k tries d
+
+-- each piece of the page in the k-th place is home
+pub record IsWholeAt (c : PagedCache) (k : ℕ) : Type 0 where
+  pub page : Page
+  pub there : page_at c k ≡ Some page
+  pub home : AllHome page
+
+-- another page than the k-th is ready with pieces of this size
+abbrev pub IsOtherReady : PagedCache → ℕ → ℕ → Type 0
+IsOtherReady c k size = (ready_for c size ≢ k) × (page : Page) × (page_at c (ready_for c size) ≡ Some page)
+
+-- the piece from this word on is the last of its page that is out, and another page is ready with pieces of its size
+pub record IsLastOut (c : PagedCache) (first : ℕ) : Type 0 where
+  pub page : Page
+  pub there : page_at c (first / 2048) ≡ Some page
+  pub last : (number : ℕ) → number < count_of page → first_of page number ≢ first → slot_at page number ≢ Out
+  pub other : IsOtherReady c (first / 2048) page.size
 
 -- what was given begins at another word than this
 abbrev pub LiesElsewhere : Result (AllocAnswer Piece) AllocError → ℕ → Type 0

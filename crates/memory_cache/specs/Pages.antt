@@ -81,13 +81,20 @@ pub record IsOutAs (p : Page) (number first : ℕ) : Type 0 where
 abbrev pub AllHome : Page → Type 0
 AllHome p = (number : ℕ) → number < count_of p → slot_at p number ≢ Out
 
--- a page of all the words of this memory, in pieces of this size, each home, the first of them the first of the chain
+-- no piece is home
+abbrev pub AllOut : Page → Type 0
+AllOut p = (number : ℕ) → slot_at p number ≡ Out
+
+-- it has two pieces or more that are home
+abbrev pub HasTwoHome : Page → Type 0
+HasTwoHome p = (one : ℕ) × (other : ℕ) × (one ≢ other) × (slot_at p one ≢ Out) × (slot_at p other ≢ Out)
+
+-- a page of all the words of this memory, in pieces of this size, each home
 pub record IsCut (memory : Memory) (size : ℕ) (p : Page) : Type 0 where
   pub place : p.place ≡ memory.block.place
   pub need : p.need ≡ memory.block.need
   pub sized : p.size ≡ size
   pub home : AllHome p
-  pub head : p.head ≡ 0
 
 -- the pages have the same words in the same pieces, of which the same are out: only the ways to find what is home may differ
 pub record IsSamePage (p q : Page) : Type 0 where

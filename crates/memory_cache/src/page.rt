@@ -1,9 +1,12 @@
 //! A page: the words of a block, cut into pieces of one size.
 
-ghost use Rattle.std.specs.Prelude.{◌≡◌, ◌+◌, ◌/◌};
+ghost use Rattle.std.specs.Prelude.{◌≡◌, ◌<◌, ◌+◌, ◌/◌, length};
 ghost use Rattle.memory_cache.specs.declared.page.TheConstants.{SCALE};
+ghost use Rattle.memory_cache.specs.Chains.{IsChain};
+ghost use Rattle.memory_cache.specs.Sizes.{size_number};
 
 use crate::piece::Piece;
+use crate::sizes::size_number;
 use heap_geometry::limits::UNIT_WORDS;
 use heap_geometry::need::Need;
 use live_heap::plain::Memory;
@@ -25,17 +28,19 @@ pub(crate) enum Slot {
 }
 
 /// The words of a block, whose words are out, in pieces of one size, each with a slot; behind the last one the rest.
-/// `head`, `before` and `behind` are ways to find what is home, and bind nobody.
+/// `before` and `behind` are ways to find other pages, and bind nobody.
 #[derive(Drop)]
 pub(crate) struct Page {
     pub(crate) place: u32,
     pub(crate) need: Need,
     pub(crate) size: u32,
+    /// The number of that size.
+    pub(crate) kind: u8,
     /// The scale by the size, and one more: a product with it finds a piece's number, where a division is slow.
     pub(crate) inverse: u32,
     pub(crate) slots: Vec<Slot>,
     pub(crate) rest: PlainWords,
-    /// The first slot of a chain of those whose pieces are home.
+    /// The first slot of the chain of those whose pieces are home.
     pub(crate) head: u16,
     /// How many pieces are home.
     pub(crate) home: u16,
@@ -43,13 +48,17 @@ pub(crate) struct Page {
     pub(crate) before: u32,
     pub(crate) behind: u32,
     pub(crate) ghost scaled: { inverse ≡ SCALE / size + 1 },
+    pub(crate) ghost numbered: { kind ≡ size_number size },
+    pub(crate) ghost kinds: { kind < 51 },
+    pub(crate) ghost few: { length slots.items < 2048 },
+    pub(crate) ghost chained: { ∥ IsChain home head slots.items ∥₁ },
 }
 
 impl Page {
     ghost use Rattle.std.specs.Prelude.{ℕ, ◌≡◌, ◌≢◌, ◌<◌, ◌*◌, ◌+◌, ◌^◌, true, false, IfOk, IfSome, None, length};
     ghost use Rattle.std.specs.Result.{IfErr};
     ghost use Rattle.live_heap.specs.Heaps.{HeapFields};
-    ghost use Rattle.memory_cache.specs.Pages.{AllHome, IsCut, IsNear, IsOutAs, IsOutAt, IsPage, IsPageFor, Pops, Pushes, count_of, slot_at};
+    ghost use Rattle.memory_cache.specs.Pages.{AllHome, AllOut, HasTwoHome, IsCut, IsNear, IsOutAs, IsOutAt, IsPage, IsPageFor, Pops, Pushes, count_of, slot_at};
     ghost use Rattle.memory_cache.specs.declared.page.Slot.TheVariants.{Out};
     ghost use Rattle.memory_cache.specs.Rooms.{IsRoomOf};
 
@@ -78,6 +87,7 @@ impl Page {
             place,
             need,
             size,
+            kind: size_number(size) as u8,
             inverse: SCALE / size + 1,
             slots,
             rest,
@@ -93,22 +103,31 @@ impl Page {
     pub(crate) fn pop(&mut self) -> Option<Piece>
         ensures given { IfSome result (λ piece. Pops self.old piece self.new) }
         ensures ready { IfSome result (λ _. slot_at self.old self.old.head ≢ Out) }
-        ensures none { result ≡ None → (slot_at self.old self.old.head ≡ Out) × (self.new ≡ self.old) }
+        ensures none { result ≡ None → (slot_at self.old self.old.head ≡ Out) × AllOut self.old × (self.new ≡ self.old) }
+    {
+        if self.has_none() {
+            return None;
+        }
+        Some(self.pop_first())
+    }
+
+    /// Takes the first piece of the chain, which has one.
+    #[inline(always)]
+    pub(crate) fn pop_first(&mut self) -> Piece
+        requires home { slot_at self.old self.old.head ≢ Out }
+        ensures { Pops self.old result self.new }
     {
         let number = self.head;
-        let Some(Slot::Home(_, _)) = self.slots.get(number as usize) else {
-            return None;
-        };
         let Slot::Home(words, next) = replace(&mut self.slots[number as usize], Slot::Out) else {
             unreachable!()
         };
         self.head = next;
-        self.home = self.home.saturating_sub(1);
-        Some(Piece {
+        self.home -= 1;
+        Piece {
             first: self.first_of(number),
             size: self.size,
             words,
-        })
+        }
     }
 
     /// Takes the piece with this number back, which is out.
@@ -119,20 +138,25 @@ impl Page {
     {
         self.slots[number as usize] = Slot::Home(piece.words, self.head);
         self.head = number;
-        self.home = self.home.saturating_add(1);
+        self.home += 1;
+    }
+
+    /// Whether no piece is home.
+    #[inline(always)]
+    pub(crate) fn has_none(&self) -> bool
+        ensures yes { result ≡ true → AllOut self.now }
+        ensures no { result ≡ false → slot_at self.now self.now.head ≢ Out }
+    {
+        self.home == 0
     }
 
     /// Whether each piece is home.
+    #[inline(always)]
     pub(crate) fn is_whole(&self) -> bool
         ensures yes { result ≡ true → AllHome self.now }
         ensures no { result ≡ false → (number : ℕ) × (number < count_of self.now) × (slot_at self.now number ≡ Out) }
     {
-        for slot in &self.slots {
-            if let Slot::Out = slot {
-                return false;
-            }
-        }
-        true
+        self.home as usize == self.slots.len()
     }
 
     /// The block's words again, where each piece is home.
@@ -210,11 +234,12 @@ impl Page {
         words * self.inverse as usize / SCALE as usize
     }
 
-    /// Whether the first piece of the chain is home, and another one with it.
+    /// Whether two pieces or more are home.
     #[inline(always)]
     pub(crate) fn is_ready(&self) -> bool
-        ensures { result ≡ true → slot_at self.now self.now.head ≢ Out }
+        ensures yes { result ≡ true → slot_at self.now self.now.head ≢ Out }
+        ensures no { result ≡ false → ¬ HasTwoHome self.now }
     {
-        self.home > 1 && matches!(self.slots.get(self.head as usize), Some(Slot::Home(_, _)))
+        self.home > 1
     }
 }

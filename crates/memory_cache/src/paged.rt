@@ -1,6 +1,6 @@
 //! A paged cache: pages of equal pieces in front of a memory cache.
 
-ghost use Rattle.std.specs.Prelude.{ℕ, ◌≡◌, ◌≢◌, ◌<◌, ◌≤◌, ◌+◌, ◌-◌, ◌%◌, ◌/◌, ◌^◌, ◌⊎◌, [], true, false, IfOk, IfSome, IsSome, Ok, Some, None, length, min};
+ghost use Rattle.std.specs.Prelude.{ℕ, ◌≡◌, ◌≢◌, ◌<◌, ◌≤◌, ◌+◌, ◌-◌, ◌%◌, ◌/◌, ◌^◌, ◌⊎◌, [], true, false, IfOk, IfSome, IsSome, IsSomeAnd, Ok, Some, None, length, min, slice_index};
 ghost use Rattle.std.specs.Result.{IfErr};
 ghost use Rattle.heap_geometry.specs.declared.limits.TheConstants.{LARGE_MOST};
 ghost use Rattle.errand_steps.specs.Begins.{IsBusy, IsIdle};
@@ -10,11 +10,11 @@ ghost use Rattle.live_heap.specs.Passes.{IsOf};
 ghost use Rattle.memory_cache.specs.declared.page.Page.{Page};
 ghost use Rattle.memory_cache.specs.declared.page.Slot.TheVariants.{Out};
 ghost use Rattle.memory_cache.specs.Caches.{kept_in};
-ghost use Rattle.memory_cache.specs.Paged.{CameOf, GoesBehind, HasCut, HasNewPage, HasPieceReady, HasPut, HasSameOut, HasSamePages, HasTold, IsOut, IsOutBy, IsPaged, IsReadyAt, LiesElsewhere, PopsAt, PushesAt, SamePages, TakesBack, page_at};
-ghost use Rattle.memory_cache.specs.Pages.{IsOutAs, IsPageFor, IsPiece, slot_at};
+ghost use Rattle.memory_cache.specs.Paged.{ActsBehind, CameOf, GoesBehind, HasCut, HasNewPage, HasPieceReady, HasPut, HasSameOut, HasSamePages, HasTold, HasTwoReady, IsLastOut, IsOut, IsOutBy, IsPaged, IsReadyAt, IsWholeAt, LiesElsewhere, PopsAt, PushesAt, SamePages, TakesBack, page_at};
+ghost use Rattle.memory_cache.specs.Pages.{AllHome, HasTwoHome, IsOutAs, IsPageFor, IsPiece, slot_at};
 ghost use Rattle.memory_cache.specs.Rooms.{IsRoomOf};
 ghost use Rattle.memory_cache.specs.Settled.{IsSettled};
-ghost use Rattle.memory_cache.specs.Sizes.{page_words, piece_words};
+ghost use Rattle.memory_cache.specs.Sizes.{page_words, piece_words, size_number};
 
 use crate::cache::MemoryCache;
 use crate::page::{NONE, Page};
@@ -110,6 +110,7 @@ impl PagedCache {
         ensures ready { IfSome result (λ _. HasPieceReady self.old (piece_words words)) }
         ensures cache { self.new.cache ≡ self.old.cache }
         ensures hits { IfSome result (λ _. self.new.hits ≡ min (self.old.hits + 1) (2 ^ 64 - 1)) }
+        ensures serves { HasTwoReady self.old (piece_words words) → IsSome result }
         ensures none { result ≡ None → self.new ≡ self.old }
     {
         let size = piece_words(words);
@@ -125,7 +126,8 @@ impl PagedCache {
     /// Whether the page in this place of the table is ready with two pieces of this size, or more.
     #[inline(always)]
     fn is_ready(&self, place: usize, size: u32) -> bool
-        ensures { result ≡ true → IsReadyAt self.now place size }
+        ensures yes { result ≡ true → IsReadyAt self.now place size }
+        ensures no { result ≡ false → (page : Page) → page_at self.now place ≡ Some page → page.size ≡ size → ¬ HasTwoHome page }
     {
         match self.pages.get(place) {
             Some(Some(page)) => page.size == size && page.is_ready(),
@@ -265,6 +267,7 @@ impl PagedCache {
         ensures keeps { (first size : ℕ) → IsOut self.old first size → first ≢ piece.first → IsOut self.new first size }
         ensures only { (first size : ℕ) → IsOut self.new first size → IsOut self.old first size × (first ≢ piece.first) }
         ensures behind { GoesBehind heap.now self.old (piece.first / 2048) tries self.new }
+        ensures sends { IsLastOut self.old piece.first → ActsBehind heap.now self.old (piece.first / 2048) tries self.new }
         ensures hits { self.new.hits ≡ self.old.hits }
     {
         let number = self.number_of(piece.first, piece.size);
@@ -283,6 +286,7 @@ impl PagedCache {
         ensures keeps { (first size : ℕ) → IsOut self.old first size → first ≢ piece.first → IsOut self.new first size }
         ensures only { IfOk result (λ _. (first size : ℕ) → IsOut self.new first size → IsOut self.old first size × (first ≢ piece.first)) }
         ensures behind { GoesBehind heap.now self.old (piece.first / 2048) tries self.new }
+        ensures sends { IfOk result (λ _. IsLastOut self.old piece.first → ActsBehind heap.now self.old (piece.first / 2048) tries self.new) }
         ensures hits { self.new.hits ≡ self.old.hits }
         ensures stray { IfErr result (λ back. (back ≡ piece) × (self.new ≡ self.old) × (¬ IsOut self.old piece.first piece.size)) }
     {
@@ -302,16 +306,20 @@ impl PagedCache {
         requires tries { 0 < tries }
         ensures back { TakesBack heap.now self.old piece.first self.new }
         ensures behind { GoesBehind heap.now self.old (piece.first / 2048) tries self.new }
+        ensures sends { IsLastOut self.old piece.first → ActsBehind heap.now self.old (piece.first / 2048) tries self.new }
         ensures hits { self.new.hits ≡ self.old.hits }
     {
         let place = piece.first / UNIT_WORDS as usize;
         let follows = push_at(&mut self.pages[place], number, piece);
         if let Some((key, number, is_whole)) = follows {
-            self.settle_page(heap, key, number, is_whole, tries);
+            // The first one of a list stays there.
+            if !is_whole || self.ready[number] != key {
+                self.settle_page(heap, key, number, is_whole, tries);
+            }
         }
     }
 
-    /// What follows where the first piece of a page has come home, or the last one.
+    /// What follows where the first piece of a page has come home, or the last one, and another page is the first one.
     #[inline(never)]
     fn settle_page(&mut self, heap: &Heap, key: u32, number: usize, is_whole: bool, tries: u32)
         requires paged { IsPaged heap.now self.old }
@@ -319,15 +327,17 @@ impl PagedCache {
         requires tries { 0 < tries }
         ensures same { HasSameOut heap.now self.old self.new }
         ensures behind { GoesBehind heap.now self.old key tries self.new }
+        ensures sends { is_whole ≡ true → IsWholeAt self.old key → slice_index self.old.ready number < length self.old.pages.items
+            → ActsBehind heap.now self.old key tries self.new }
         ensures hits { self.new.hits ≡ self.old.hits }
     {
-        if !is_whole || self.ready[number] == NONE {
+        if !is_whole || self.ready[number] as usize >= self.pages.len() {
             self.link(key, number);
-        } else if self.ready[number] != key {
-            self.unlink(key, number);
-            if !self.release(heap, key as usize, tries) {
-                self.link(key, number);
-            }
+            return;
+        }
+        self.unlink(key, number);
+        if !self.release(heap, key as usize, tries) {
+            self.link(key, number);
         }
     }
 
@@ -342,6 +352,7 @@ impl PagedCache {
         ensures length { length self.new.pages.items ≡ length self.old.pages.items }
         ensures gone { result ≡ true → page_at self.new key ≡ None }
         ensures behind { GoesBehind h self.old key tries self.new }
+        ensures sends { IsWholeAt self.old key → ActsBehind h self.old key tries self.new }
         ensures hits { self.new.hits ≡ self.old.hits }
         ensures stays { result ≡ false → IsBusy self.new.cache.pass.errand ⊎ ((first : ℕ) × (size : ℕ) × IsOut self.new first size) }
     {
@@ -498,17 +509,14 @@ impl PagedCache {
     }
 }
 
-/// A piece of the page in this place of the table, whose chain has one.
+/// A piece of the page in this place of the table, which has one.
 #[inline(always)]
 fn pop_from(place: &mut Option<Page>) -> Piece
     requires { (page : Page) × (place.old ≡ Some page) × (slot_at page page.head ≢ Out) }
     ensures { PopsAt place.old result place.new }
 {
     let Some(page) = place else { unreachable!() };
-    let Some(piece) = page.pop() else {
-        unreachable!()
-    };
-    piece
+    page.pop_first()
 }
 
 /// A piece of the page in this place of the table, where its pieces are of this size; and whether none is home behind it.
@@ -526,7 +534,7 @@ fn pop_at(place: &mut Option<Page>, size: u32) -> Option<(Piece, bool)>
         return None;
     }
     let piece = page.pop()?;
-    Some((piece, page.home == 0))
+    Some((piece, page.has_none()))
 }
 
 /// Takes the piece with this number of the page in this place of the table back. What follows for the page, where something
@@ -535,15 +543,15 @@ fn pop_at(place: &mut Option<Page>, size: u32) -> Option<(Piece, bool)>
 fn push_at(place: &mut Option<Page>, number: u16, piece: Piece) -> Option<(u32, usize, bool)>
     requires out { (page : Page) × (place.old ≡ Some page) × IsOutAs page number piece.first }
     ensures pushed { PushesAt place.old piece place.new }
-    ensures key { IfSome result (λ told. (page : Page) × (place.old ≡ Some page) × (told.0 ≡ page.place / 2048)) }
+    ensures key { IfSome result (λ told. (page : Page) × (place.old ≡ Some page) × (told.0 ≡ page.place / 2048) × (told.1 ≡ size_number page.size)) }
     ensures number { IfSome result (λ told. told.1 < 51) }
+    ensures whole { (page : Page) → place.new ≡ Some page → AllHome page → IsSomeAnd result (λ told. told.2 ≡ true) }
 {
     let Some(page) = place else { unreachable!() };
     page.push(number, piece);
-    let is_whole = page.home as usize == page.slots.len();
-    // The first one of a list stays there.
-    if page.home == 1 || (is_whole && page.before != NONE) {
-        Some((page.place / UNIT_WORDS, size_number(page.size), is_whole))
+    let is_whole = page.is_whole();
+    if is_whole || page.home == 1 {
+        Some((page.place / UNIT_WORDS, page.kind as usize, is_whole))
     } else {
         None
     }

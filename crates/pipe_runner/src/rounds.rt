@@ -76,7 +76,8 @@ fn send_first<R: Threads + Wait + Sync, G: Gate + Sync>(
     join_mut(rt, &mut send, &mut go_on);
 }
 
-/// A round: all senders go on from so many messages until so many, and the receiver receives beside them.
+/// A round: all senders go on from so many messages until so many, and the receiver receives beside them. Then it receives
+/// what is left, so that no sender of the next round finds a block on its shelf.
 fn round<R: Threads + Wait + Sync, G: Gate + Sync>(
     rt: &R,
     pipe: &Pipe,
@@ -105,6 +106,7 @@ fn round<R: Threads + Wait + Sync, G: Gate + Sync>(
         senders.as_mut_slice(),
         receiver,
     );
+    receiver.receive_all(rt, pipe, heap);
 }
 
 /// All senders send so many messages, in rounds of at most eight.

@@ -1,21 +1,19 @@
 -- Blocks that an operation gives and frees, and those in the registers before and after it.
-use Rattle.std.proofs.Common.{ℕ, get_or, ◌≡◌, ◌⊎◌, ◌+◌, ◌<◌, ◌≤◌, true, List, Option, Some, None, length, set, refl, sym, ap, subst, inl, inr, arith}
+use Rattle.std.proofs.Common.{ℕ, get_or, ◌≡◌, ◌+◌, ◌<◌, ◌≤◌, List, Option, Some, None, length, set, refl, sym, ap, subst, arith}
 use Rattle.std.proofs.lemmas.List.Sums.{sum_by-set}
 use Rattle.heap_geometry.specs.Need.{need_of}
 use Rattle.pool_model.specs.declared.event.Event.{Event}
 use Rattle.trace_text.specs.declared.limits.TheConstants.{REGISTERS}
 use Rattle.trace_text.specs.Traces.{IsOp}
 use Rattle.trace_text.specs.declared.trace.Op.{Op}
-use Rattle.trace_text.specs.declared.trace.Op.TheVariants as op
 use Rattle.lane_outcomes.specs.declared.registers.HeldBlock.{HeldBlock}
 use Rattle.lane_outcomes.specs.declared.outcome.Outcome.{Outcome}
-use Rattle.lane_outcomes.specs.declared.outcome.Outcome.TheVariants as outcome
-use Rattle.lane_outcomes.specs.Lane.{Position, held_in, registers_after}
+use Rattle.lane_outcomes.specs.Lane.{held_in, registers_after}
 use Rattle.lane_outcomes.specs.LaneCounts.{words_given, words_freed, count_with, as_one}
-use Rattle.lane_outcomes.specs.Rows.{Setting, ResizeRow, FitsRow}
-use Rattle.roomy_traces.specs.Roomy.{Filled, IsPlain, filled_in, moves}
-use Rattle.roomy_traces.proofs.RegisterLemmas.{IsAlike, words_held, own_by, words_filled, need_held, need_filled, alike-at, need-at, mismatch, moves-on}
-use Rattle.roomy_traces.proofs.PieceLemmas.{IsPlainDeed, plain-deed}
+use Rattle.lane_outcomes.specs.Rows.{Setting}
+use Rattle.roomy_traces.specs.Roomy.{IsPlain}
+use Rattle.roomy_traces.proofs.RegisterLemmas.{own_by, words_held}
+use Rattle.roomy_traces.proofs.SerialRows.{IsPlainDeed, op-within, plain-deed}
 use Rattle.lane_outcomes.proofs.SlotRows.{Adds, row-adds}
 use Rattle.lane_outcomes.specs.Deeds as deed
 use Rattle.lane_outcomes.specs.Deeds.{Deed, deed_of, freed_by, given_by, register_of, registers_by}
@@ -49,11 +47,6 @@ balance-by f setting depth position r deed.lays piece plain within row = absurd 
 balance-by f setting depth position r (deed.takes words place need) piece plain within row = absurd plain
 balance-by f setting depth position r done piece plain within row = refl
 
-op-within : (operation : Op) → IsOp operation → register_of operation < REGISTERS
-op-within (op.Free r) is = is
-op-within (op.Check r) is = is
-op-within operation is = is.0
-
 pub row-balance :
     (f : ℕ → ℕ) (setting : Setting) (depth : ℕ) (position : CachedPosition) (operation : Op) (result : Outcome) (piece : List Event) → IsPlain operation
     → IsOp operation → length position.base.registers ≡ REGISTERS → CachedRow setting depth position operation result piece
@@ -62,36 +55,6 @@ pub row-balance :
 row-balance f setting depth position operation result piece plain ranges many row =
     balance-by f setting depth position (register_of operation) (deed_of operation result) piece (plain-deed operation result plain)
     (subst (λ n. register_of operation < n) (sym many) (op-within operation ranges)) (row-adds setting depth position operation result piece row)
-
--- an operation gives no block, or frees none, or moves one
-abbrev pub IsOneSided : List (Option HeldBlock) → Option Filled → Op → Outcome → Type 0
-IsOneSided registers now operation result =
-    (count_with as_one (words_given operation result) ≡ 0)
-    ⊎ ((count_with as_one (words_freed registers operation result) ≡ 0) ⊎ (moves now operation ≡ true))
-
-resize-sided :
-    (setting : Setting) (position : Position) (r need : ℕ) (held : Option HeldBlock) (result : Outcome) (now : Option Filled) (piece : List Event)
-    → words_held held ≡ words_filled now → need_held held ≡ need_filled now → ResizeRow setting position need held result piece
-    → IsOneSided position.registers now (op.Resize r need) result
-resize-sided setting position r need (Some held) (outcome.Resized words place) (Some now) piece same same_need row =
-    let goes = moves-on need held now same_need row.0 in
-    inr (inr (rw goes refl))
-resize-sided setting position r need (Some held) (outcome.Resized words place) None piece same same_need row = mismatch held _ same
-resize-sided setting position r need None (outcome.Resized words place) now piece same same_need row = absurd row
-resize-sided setting position r need held result now piece same same_need row = inl refl
-
-pub row-sided :
-    (setting : Setting) (position : Position) (filled : List (Option Filled)) (operation : Op) (result : Outcome) (piece : List Event)
-    → IsAlike position.registers filled → FitsRow setting position operation result piece
-    → IsOneSided position.registers (filled_in filled operation) operation result
-row-sided setting position filled (op.Resize r need) result piece alike row =
-    resize-sided setting position r need (held_in position.registers r) result (filled_in filled (op.Resize r need)) piece
-    (alike-at position.registers filled r alike) (need-at position.registers filled r alike) row
-row-sided setting position filled (op.Alloc r need v) (outcome.Given words place) piece alike row = inr (inl refl)
-row-sided setting position filled (op.Free r) outcome.Freed piece alike row = inl refl
-row-sided setting position filled (op.Put r shelf) outcome.Put piece alike row = inl refl
-row-sided setting position filled (op.Take r shelf) (outcome.Took words place need) piece alike row = inl refl
-row-sided setting position filled operation result piece alike row = inl refl
 
 -- an operation gives at most one block
 pub gives-one : (done : Deed) → count_with as_one (given_by done) ≤ 1

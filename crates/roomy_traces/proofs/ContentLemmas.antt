@@ -3,10 +3,11 @@ use Rattle.std.proofs.Common.{ℕ, zero, suc, replicate, set, sum, ◌≡◌, �
 use Rattle.std.specs.Prelude.{slice_set, slice_index_or}
 use Rattle.std.specs.List.{AllByRecursion, AllZip, range_with_len}
 use Rattle.std.proofs.lemmas.List.{set_at, length_push, length-replicate}
+use Rattle.std.proofs.lemmas.Simd.{map-map}
 use Rattle.heap_geometry.specs.declared.geometry.Geometry.{Geometry}
 use Rattle.heap_geometry.specs.Need.{need_of, usable_words}
 use Rattle.pool_model.specs.declared.event.Event.{Event}
-use Rattle.pool_model.specs.declared.event.Event.TheVariants.{Alloc, Looked, Refuse, Free, Write, Put, Take, TakeNone}
+use Rattle.pool_model.specs.declared.event.Event.TheVariants.{Alloc, Free, Write, Put, Take}
 use Rattle.pool_model.specs.declared.owner.Owner.TheVariants.{Caller}
 use Rattle.pool_model.specs.Histories.{own, Begins}
 use Rattle.pool_model.specs.Pool.{Block, Pool, block_at, pool_after, pool_of, fresh_block, written}
@@ -14,13 +15,14 @@ use Rattle.pool_model.specs.Legal.{IsLegalWithoutCounts, IsLegalEventWithoutCoun
 use Rattle.pool_model.proofs.HistoryLemmas.{pool_of-push, push-append, EachAfter-cut}
 use Rattle.pool_model.proofs.OwnerLemmas.{others-keep_all}
 use Rattle.pool_model.proofs.PoolLemmas.{block_at-here, block_at-past, block_at-without_other, block_at-changed_other, block_at-changed_same}
-use Rattle.lane_outcomes.specs.Lane.{filling, writing}
+use Rattle.lane_outcomes.specs.Lane.{writing}
 use Rattle.lane_outcomes.specs.Rows.{IsWord, IsSumOf}
 use Rattle.lane_outcomes.proofs.FillLemmas.{writes_of}
-use Rattle.lane_outcomes.proofs.FollowLemmas.{cut-last}
+use Rattle.lane_outcomes.proofs.FollowLemmas.{cut-at}
+use Rattle.lane_outcomes.proofs.WalkLemmas.{IsGiven}
 use Rattle.lane_outcomes.proofs.WrittenBlocks.{known-words}
-use Rattle.roomy_traces.specs.Roomy.{copied, numbers_from}
-use Rattle.roomy_traces.proofs.PieceLemmas.{IsGivenBy}
+use Rattle.lane_outcomes.proofs.WrittenLemmas.{copied-word}
+use Rattle.roomy_traces.specs.Roomy.{copied}
 
 -- the caller owns a live block at the place, with these contents
 pub record HasContents (caller place : ℕ) (contents : List (Option ℕ)) (pool : Pool) : Type 0 where
@@ -39,7 +41,7 @@ moments-step :
     → ((before rest : List Event) → IsLegalWithoutCounts g (before ++ rest) → own caller rest ≡ [] → Q (pool_of before) → Q (pool_of (before ++ rest)))
     → ((pool : Pool) → P pool → Q (pool_after pool event)) → AtMoments history caller done P → AtMoments history caller (done ++ event ∷ []) Q
 moments-step g history caller done event P Q legal others step at events (more, is) own_is =
-    let cut = cut-last caller done event events own_is in
+    let cut = cut-at caller done event [] events own_is in
     let past : (cut.front ++ event ∷ []) ++ cut.back ≡ events = push-append cut.front cut.back event ∙ sym cut.whole in
     let before : history ≡ cut.front ++ (event ∷ (cut.back ++ more)) =
     is ∙ ap (λ xs. xs ++ more) cut.whole ∙ append_assoc cut.front (event ∷ cut.back) more in
@@ -49,45 +51,37 @@ moments-step g history caller done event P Q legal others step at events (more, 
     subst Q (sym (pool_of-push cut.front event)) (step (pool_of cut.front) (at cut.front (event ∷ (cut.back ++ more), before) cut.own_front)) in
     subst (λ (xs : List Event). Q (pool_of xs)) past (others (cut.front ++ event ∷ []) cut.back legal_past cut.own_back stepped)
 
--- others' events leave the contents of a caller's block
-others-contents :
-    (g : Geometry) (caller place : ℕ) (contents : List (Option ℕ)) (before rest : List Event) → IsLegalWithoutCounts g (before ++ rest)
-    → own caller rest ≡ [] → HasContents caller place contents (pool_of before) → HasContents caller place contents (pool_of (before ++ rest))
-others-contents g caller place contents before rest legal none h =
-    record {
-      block = h.block;
-      live = others-keep_all g before rest caller place h.block legal none h.live h.owned;
-      owned = h.owned;
-      contents_are = h.contents_are;
-    }
+-- a block that lies where it lay has the same contents
+contents-on :
+    (caller place : ℕ) (contents : List (Option ℕ)) (old new : Pool) (h : HasContents caller place contents old) → block_at place new ≡ Some h.block
+    → HasContents caller place contents new
+contents-on caller place contents old new h live = record { block = h.block; live = live; owned = h.owned; contents_are = h.contents_are }
 
 contents-step :
     (g : Geometry) (history : List Event) (caller : ℕ) (done : List Event) (event : Event) (place : ℕ) (contents : List (Option ℕ)) (P : Pool → Type 0)
     → IsLegalWithoutCounts g history → ((pool : Pool) → P pool → HasContents caller place contents (pool_after pool event))
     → AtMoments history caller done P → AtMoments history caller (done ++ event ∷ []) (HasContents caller place contents)
 contents-step g history caller done event place contents P legal step at =
-    moments-step g history caller done event P (HasContents caller place contents) legal (others-contents g caller place contents) step at
+    moments-step g history caller done event P (HasContents caller place contents) legal
+    (λ before rest legal_here none h.
+    contents-on caller place contents (pool_of before) _ h (others-keep_all g before rest caller place h.block legal_here none h.live h.owned)) step at
 
 -- the event is of another block than the one at the place
 abbrev pub IsAway : ℕ → Event → Type 0
 IsAway place (Alloc by need other) = place ≢ other
-IsAway place (Looked by class) = Unit {0}
-IsAway place (Refuse by need) = Unit {0}
 IsAway place (Free by other) = place ≢ other
 IsAway place (Write by other i v) = place ≢ other
 IsAway place (Put by other shelf) = ⊥
 IsAway place (Take by shelf other) = ⊥
-IsAway place (TakeNone by shelf) = Unit {0}
+IsAway place event = Unit {0}
 
 away-live : (place : ℕ) (event : Event) (pool : Pool) → IsAway place event → block_at place (pool_after pool event) ≡ block_at place pool
 away-live place (Alloc by need other) pool away = block_at-past place (fresh_block by need other) pool (λ e. away (sym e))
-away-live place (Looked by class) pool away = refl
-away-live place (Refuse by need) pool away = refl
 away-live place (Free by other) pool away = block_at-without_other other place pool away
 away-live place (Write by other i v) pool away = block_at-changed_other other place (written i v) pool (λ b. refl) away
 away-live place (Put by other shelf) pool away = absurd away
 away-live place (Take by shelf other) pool away = absurd away
-away-live place (TakeNone by shelf) pool away = refl
+away-live place event pool away = refl
 
 -- events of other blocks leave the contents of a caller's block
 pub at-away :
@@ -100,12 +94,7 @@ at-away g history caller done (event ∷ events) place contents legal away at =
     subst (λ (xs : List Event). AtMoments history caller xs (HasContents caller place contents)) (push-append done events event)
     (at-away g history caller (done ++ event ∷ []) events place contents legal away.1
     (contents-step g history caller done event place contents (HasContents caller place contents) legal
-    (λ pool h. record {
-      block = h.block;
-      live = away-live place event pool away.0 ∙ h.live;
-      owned = h.owned;
-      contents_are = h.contents_are;
-    }) at))
+    (λ pool h. contents-on caller place contents pool _ h (away-live place event pool away.0 ∙ h.live)) at))
 
 -- the values of words from one on
 abbrev somes : (ℕ → ℕ) → ℕ → ℕ → List (Option ℕ)
@@ -143,10 +132,6 @@ at-writes g history caller place value (suc count) first done front (x ∷ back)
     (subst (λ (xs : List Event). AtMoments history caller xs (HasContents caller place (longer ++ somes value (first + 1) count)))
     (push-append done events event) later)
 
-map-map : {X Y Z : Type 0} (f : Y → Z) (h : X → Y) (xs : List X) → map (λ x. f (h x)) xs ≡ map f (map h xs)
-map-map f h [] = refl
-map-map f h (x ∷ xs) = ap (λ ys. f (h x) ∷ ys) (map-map f h xs)
-
 -- the contents of a block with these numbers in it
 abbrev pub with_numbers : List ℕ → List (Option ℕ)
 with_numbers numbers = map (λ n. Some n) numbers
@@ -158,21 +143,13 @@ pub at-writing :
     → AtMoments history caller (done ++ writing caller place words value) (HasContents caller place (with_numbers (map value (range_with_len 0 words))))
 at-writing g history caller place words value done contents legal many at =
     subst (λ (cs : List (Option ℕ)). AtMoments history caller (done ++ writing caller place words value) (HasContents caller place cs))
-    (map-map (λ n. Some n) value (range_with_len 0 words))
+    (sym (map-map (λ n. Some n) value (range_with_len 0 words)))
     (at-writes g history caller place value words 0 done [] contents legal refl many at)
-
--- a filling puts rising numbers into a block, whatever it contained
-pub at-filling :
-    (g : Geometry) (history : List Event) (caller place words v : ℕ) (done : List Event) (contents : List (Option ℕ))
-    → IsLegalWithoutCounts g history → length contents ≡ words → AtMoments history caller done (HasContents caller place contents)
-    → AtMoments history caller (done ++ filling caller place words v) (HasContents caller place (with_numbers (numbers_from v words)))
-at-filling g history caller place words v done contents legal many at =
-    at-writing g history caller place words (λ i. (v + i) % 2 ^ 64) done contents legal many at
 
 -- an allocation that is given a block and writes it puts the written values into it
 pub at-given :
     (g : Geometry) (history : List Event) (caller need place words : ℕ) (value : ℕ → ℕ) (done calls : List Event) → IsLegalWithoutCounts g history
-    → words ≡ usable_words (need_of need) → IsGivenBy caller need place calls
+    → words ≡ usable_words (need_of need) → IsGiven caller need place calls
     → AtMoments history caller (done ++ (calls ++ writing caller place words value)) (HasContents caller place (with_numbers (map value (range_with_len 0 words))))
 at-given g history caller need place words value done calls legal words_are given =
     let fresh : List (Option ℕ) = replicate (usable_words (need_of need)) None in
@@ -202,12 +179,7 @@ pub at-freed :
     → AtMoments history caller (done ++ Free caller gone ∷ []) (HasContents caller place contents)
 at-freed g history caller place gone done contents legal apart at =
     contents-step g history caller done (Free caller gone) place contents (λ pool. (place ≢ gone) × HasContents caller place contents pool) legal
-    (λ pool h. record {
-      block = h.1.block;
-      live = away-live place (Free caller gone) pool h.0 ∙ h.1.live;
-      owned = h.1.owned;
-      contents_are = h.1.contents_are;
-    })
+    (λ pool h. contents-on caller place contents pool _ h.1 (away-live place (Free caller gone) pool h.0 ∙ h.1.live))
     (λ before begins own_is. (apart before begins own_is, at before begins own_is))
 
 -- what a live block contains whose numbers are known
@@ -227,12 +199,6 @@ known-sum pool caller place numbers total block h found summed =
     ∙ ap (λ ns. sum ns % 2 ^ 64)
     (known-words numbers summed.words
     (subst (λ (cs : List (Option ℕ)). AllZip IsWord cs summed.words) (known-contents pool caller place numbers block h found) summed.each))
-
--- the value of a copied word is the number that the old block has there, and 0 past its end
-copied-word : (numbers : List ℕ) (i n : ℕ) → IsWord (slice_index_or (with_numbers numbers) i (Some 0)) n → n ≡ slice_index_or numbers i 0
-copied-word [] i n is = is
-copied-word (number ∷ numbers) zero n is = is
-copied-word (number ∷ numbers) (suc i) n is = copied-word numbers i n is
 
 range-same :
     (value other : ℕ → ℕ) (count first : ℕ) → ((i : ℕ) → i < first + count → value i ≡ other i)

@@ -1,5 +1,5 @@
 -- Lanes by their numbers, sums over them, and a caller's events among those of a history.
-use Rattle.std.proofs.Common.{ℕ, zero, suc, Bool, true, false, eqb, cond, get_or, sum_by, count_by, ◌≡◌, ◌+◌, ◌<◌, ◌≤◌, List, [], ◌∷◌, ◌++◌, length, refl, sym, ◌∙◌, ap, subst, inl, inr, arith, add-zero}
+use Rattle.std.proofs.Common.{ℕ, zero, suc, Bool, eqb, cond, get_or, sum_by, count_by, ◌≡◌, ◌+◌, ◌<◌, ◌≤◌, List, [], ◌∷◌, ◌++◌, length, refl, sym, ◌∙◌, ap, subst, inl, inr, arith, add-zero, append-nil}
 use Rattle.std.specs.List.{AllByRecursion}
 use Rattle.std.proofs.lemmas.Bool.{cases_Bool}
 use Rattle.std.proofs.lemmas.List.Sums.{sum_by-cons, sum_by-append}
@@ -7,6 +7,7 @@ use Rattle.pool_model.specs.declared.event.Event.{Event}
 use Rattle.pool_model.specs.Histories.{caller_of, own, Begins}
 use Rattle.pool_model.specs.Pool.{Pool, pool_after}
 use Rattle.pool_model.proofs.HistoryLemmas.{own-append}
+use Rattle.lane_outcomes.proofs.FollowLemmas.{cut-at}
 use Rattle.lane_outcomes.proofs.TallyLemmas.{tally, of_caller, sum_from, partition}
 
 -- a sum over lane numbers is at most one over the lanes, where each term is
@@ -112,15 +113,6 @@ pub all-ends :
 all-ends P [] rest all = all
 all-ends P (event ∷ part) rest all = all-ends P part rest all.1
 
-pub all-append :
-    (P : Event → Type 0) (part rest : List Event) → AllByRecursion P part → AllByRecursion P rest → AllByRecursion P (part ++ rest)
-all-append P [] rest first last = last
-all-append P (event ∷ part) rest first last = (first.0, all-append P part rest first.1 last)
-
-pub all-map : (P Q : Event → Type 0) (events : List Event) → ((event : Event) → P event → Q event) → AllByRecursion P events → AllByRecursion Q events
-all-map P Q [] f all = tt
-all-map P Q (event ∷ events) f all = (f event all.0, all-map P Q events f all.1)
-
 -- what holds of each event of a list holds of a caller's own ones
 pub all-own : (P : Event → Type 0) (caller : ℕ) (events : List Event) → AllByRecursion P events → AllByRecursion P (own caller events)
 all-own P caller [] all = tt
@@ -138,35 +130,7 @@ own-begins caller before history (rest, is) = (own caller rest, ap (own caller) 
 abbrev pub HasMoment : ℕ → List Event → List Event → Type 0
 HasMoment caller history part = (before : List Event) × Begins before history × (own caller before ≡ part)
 
-moment-hers :
-    (caller : ℕ) (next event : Event) (history part : List Event) → eqb (caller_of next) caller ≡ true → next ≡ event
-    → HasMoment caller history part → HasMoment caller (next ∷ history) (event ∷ part)
-moment-hers caller next event history part hers same (before, (more, is), own_is) = (
-  next ∷ before,
-  (more, ap (λ xs. next ∷ xs) is),
-  rw hers (ap (λ xs. next ∷ xs) own_is ∙ ap (λ x. x ∷ part) same),
-)
-
-moment-past :
-    (caller : ℕ) (next : Event) (history part : List Event) → eqb (caller_of next) caller ≡ false
-    → HasMoment caller history part → HasMoment caller (next ∷ history) part
-moment-past caller next history part other (before, (more, is), own_is) = (
-  next ∷ before,
-  (more, ap (λ xs. next ∷ xs) is),
-  rw other own_is,
-)
-
 pub moment-of : (caller : ℕ) (history part rest : List Event) → own caller history ≡ part ++ rest → HasMoment caller history part
-moment-of caller history [] rest is = ([], (history, refl), refl)
-moment-of caller [] (event ∷ part) rest is = absurd (cc)
-moment-of caller (next ∷ history) (event ∷ part) rest is =
-    elim (cases_Bool (eqb (caller_of next) caller)) [
-      | inl hers ↦
-          let e : next ∷ own caller history ≡ event ∷ (part ++ rest) = rw hers at is in
-          let same : next ≡ event = cc in
-          let tails : own caller history ≡ part ++ rest = cc in
-          moment-hers caller next event history part hers same (moment-of caller history part rest tails)
-      | inr other ↦
-          let e : own caller history ≡ event ∷ (part ++ rest) = rw other at is in
-          moment-past caller next history (event ∷ part) other (moment-of caller history (event ∷ part) rest e)
-    ]
+moment-of caller history part [] is = (history, ([], sym (append-nil history)), is ∙ append-nil part)
+moment-of caller history part (event ∷ rest) is =
+    let cut = cut-at caller part event rest history is in (cut.front, (event ∷ cut.back, cut.whole), cut.own_front)

@@ -1,13 +1,13 @@
 pub mod LaneLemmas
 pub mod PieceLemmas
 pub mod RegisterLemmas
+pub mod SerialRows
 pub mod SpentLemmas
 pub mod BalanceLemmas
 pub mod MostHeldLemmas
 pub mod FrameLemmas
 pub mod RefuseLemmas
 pub mod ContentLemmas
-pub mod FilledLemmas
 pub mod SerialLemmas
 pub mod ReportLemmas
 pub mod generated_lemmas

@@ -8,19 +8,18 @@ use Rattle.pool_model.specs.declared.event.Event.TheVariants.{Refuse}
 use Rattle.pool_model.specs.Counts.{is_alloc, is_free}
 use Rattle.pool_model.specs.Histories.{Begins}
 use Rattle.trace_text.specs.declared.trace.Op.{Op}
-use Rattle.trace_text.specs.declared.trace.Op.TheVariants as op
-use Rattle.lane_outcomes.specs.Deeds.{register_of}
 use Rattle.lane_outcomes.specs.declared.outcome.Outcome.{Outcome}
 use Rattle.lane_outcomes.specs.declared.outcome.Outcome.TheVariants as outcome
-use Rattle.lane_outcomes.specs.Lane.{Position, held_in}
-use Rattle.lane_outcomes.specs.LaneCounts.{words_given, count_with, as_one}
-use Rattle.lane_outcomes.specs.Rows.{Setting, FitsRow}
-use Rattle.lane_outcomes.proofs.SlotRows.{row-refused as refused-row}
+use Rattle.lane_outcomes.specs.LaneCounts.{as_one}
+use Rattle.lane_outcomes.specs.Rows.{Setting}
+use Rattle.lane_outcomes.specs.Cached.{CachedPosition, CachedRow}
+use Rattle.lane_outcomes.proofs.SlotRows.{row-refused}
+use Rattle.lane_outcomes.proofs.WalkLemmas.{refused-of}
 use Rattle.roomy_traces.specs.Roomy.{Filled, filled_in, moves, held_by, held_during}
 use Rattle.roomy_traces.proofs.LaneLemmas.{all-ends, count-begins}
-use Rattle.roomy_traces.proofs.PieceLemmas.{Counts, refused-by}
+use Rattle.roomy_traces.proofs.PieceLemmas.{Counts}
 use Rattle.roomy_traces.proofs.SpentLemmas.{IsUnspent}
-use Rattle.roomy_traces.proofs.RegisterLemmas.{IsAnswered}
+use Rattle.roomy_traces.proofs.SerialRows.{IsAnswered}
 
 -- an event that isn't a refusal
 abbrev pub IsUnrefusing : Event → Type 0
@@ -35,17 +34,12 @@ answered-or result unspent = inl tt
 
 -- a refusal adds its event
 pub row-refuses :
-    (setting : Setting) (position : Position) (operation : Op) (piece : List Event) → FitsRow setting position operation outcome.Refused piece
-    → AllByRecursion IsUnrefusing piece → ⊥
-row-refuses setting position operation piece row none =
-    let (need, is, events) = refused-row setting position piece operation (held_in position.registers (register_of operation)) row in
-    let refused = refused-by setting.caller need (need_of need) piece events in
+    (setting : Setting) (depth : ℕ) (position : CachedPosition) (operation : Op) (piece : List Event)
+    → CachedRow setting depth position operation outcome.Refused piece → AllByRecursion IsUnrefusing piece → ⊥
+row-refuses setting depth position operation piece row none =
+    let (need, is, events) = row-refused setting depth position operation piece row in
+    let refused = refused-of setting.caller need (need_of need) piece events in
     (all-ends IsUnrefusing refused.looked (Refuse setting.caller need ∷ []) (subst (AllByRecursion IsUnrefusing) refused.whole none)).0
-
-pub refused-gives : (operation : Op) → count_with as_one (words_given operation outcome.Refused) ≡ 0
-refused-gives (op.Alloc r need v) = refl
-refused-gives (op.Resize r need) = refl
-refused-gives operation = refl
 
 -- a part of two lists in a row is a part of the first, or the first and a part of the second
 pub begins-cases :

@@ -1,8 +1,7 @@
 -- No lane of a roomy trace is refused.
-use Rattle.std.proofs.Common.{ℕ, zero, suc, get_or, sum_by, count_by, replicate, ◌≡◌, ◌+◌, ◌*◌, ◌<◌, ◌≤◌, List, [], ◌∷◌, ◌++◌, Option, None, map, length, refl, sym, ◌∙◌, ap, subst, arith, zero-add, eq-eqb}
+use Rattle.std.proofs.Common.{ℕ, get_or, sum_by, count_by, ◌≡◌, ◌+◌, ◌*◌, ◌<◌, ◌≤◌, List, [], ◌∷◌, ◌++◌, length, refl, sym, ◌∙◌, ap, subst, arith, zero-add, eq-eqb}
 use Rattle.std.specs.List.{AllByRecursion}
 use Rattle.std.proofs.lemmas.Bool.{le-leb}
-use Rattle.std.proofs.lemmas.List.{length-replicate}
 use Rattle.std.proofs.lemmas.List.Elements.{recursion_from_All}
 use Rattle.heap_geometry.specs.declared.geometry.Geometry.{Geometry}
 use Rattle.heap_geometry.specs.declared.limits.TheConstants.{CLASSES, SMALL_MOST}
@@ -16,31 +15,15 @@ use Rattle.pool_model.specs.Pool.{pool_of}
 use Rattle.pool_model.specs.Legal.{IsLegal, IsLegalEventWithoutCounts, IsLegalWithoutCounts, IsCountedFor, IsCrowded}
 use Rattle.pool_model.proofs.CountLemmas.{length-live}
 use Rattle.pool_model.proofs.HistoryLemmas.{kept, push-append, own-append, EachAfter-cut, legal-weaker}
-use Rattle.trace_text.specs.declared.limits.TheConstants.{REGISTERS}
 use Rattle.trace_text.specs.Traces.{IsOp, IsTrace}
 use Rattle.trace_text.specs.declared.trace.Op.{Op}
 use Rattle.trace_text.specs.declared.trace.Trace.{Trace}
-use Rattle.lane_outcomes.specs.declared.registers.HeldBlock.{HeldBlock}
-use Rattle.lane_outcomes.specs.Lane.{start}
 use Rattle.lane_outcomes.proofs.TallyLemmas.{sum_from}
-use Rattle.roomy_traces.specs.Roomy.{no_blocks}
-use Rattle.roomy_traces.proofs.LaneLemmas.{sum-lanes, sum_from-both, by-caller, all-begins, all-ends, all-append, all-own}
+use Rattle.roomy_traces.proofs.LaneLemmas.{sum-lanes, sum_from-both, by-caller, all-begins, all-ends, all-own}
+use Rattle.lane_outcomes.proofs.WalkLemmas.{all-append}
 use Rattle.roomy_traces.proofs.PieceLemmas.{IsTame}
-use Rattle.roomy_traces.proofs.RegisterLemmas.{IsAlike, words_held, words_filled, need_held, need_filled}
 use Rattle.roomy_traces.proofs.MostHeldLemmas.{IsUnrefusing}
 use Rattle.roomy_traces.proofs.FrameLemmas.{crowded-live}
-
--- empty registers hold no words, in a lane that runs and in one computed on its own
-nothing-held : (n : ℕ) → map words_held (replicate n None) ≡ map words_filled (replicate n None)
-nothing-held zero = refl
-nothing-held (suc n) = ap (λ ws. None ∷ ws) (nothing-held n)
-
-no-needs : (n : ℕ) → map need_held (replicate n None) ≡ map need_filled (replicate n None)
-no-needs zero = refl
-no-needs (suc n) = ap (λ ns. None ∷ ns) (no-needs n)
-
-pub alike-start : IsAlike start.registers no_blocks
-alike-start = record { words = nothing-held REGISTERS; needs = no-needs REGISTERS; many = length-replicate {A = Option HeldBlock} REGISTERS None }
 
 -- each lane's operations are in their ranges
 pub lane-ranges : (trace : Trace) → IsTrace trace → (k : ℕ) → k < length trace.lanes → AllByRecursion IsOp (get_or trace.lanes k [])

@@ -9,43 +9,21 @@ use Rattle.pool_model.specs.declared.event.Event.TheVariants.{Alloc}
 use Rattle.pool_model.specs.Counts.{is_alloc}
 use Rattle.pool_model.specs.Histories.{caller_of, own, Begins}
 use Rattle.trace_text.specs.declared.trace.Op.{Op}
-use Rattle.trace_text.specs.declared.trace.Op.TheVariants as op
-use Rattle.lane_outcomes.specs.Deeds.{Deed, deed_of, given_by, register_of}
+use Rattle.lane_outcomes.specs.Deeds.{Deed, deed_of, given_by}
 use Rattle.lane_outcomes.specs.Deeds as deed
 use Rattle.lane_outcomes.specs.declared.outcome.Outcome.{Outcome}
 use Rattle.lane_outcomes.specs.declared.outcome.Outcome.TheVariants as outcome
-use Rattle.lane_outcomes.specs.Lane.{answered_with, Position, held_in, is_small, answered_after, spent_after}
+use Rattle.lane_outcomes.specs.Lane.{answered_with, Position, is_small, answered_after, spent_after}
 use Rattle.lane_outcomes.specs.LaneCounts.{words_given, count_with, as_one}
-use Rattle.lane_outcomes.specs.Rows.{Setting, IsSpent, FitsRow, gives_another_small}
+use Rattle.lane_outcomes.specs.Rows.{Setting, IsSpent, gives_another_small}
+use Rattle.lane_outcomes.specs.Cached.{CachedPosition, CachedRow}
 use Rattle.lane_outcomes.proofs.TallyLemmas.{sum_from}
 use Rattle.lane_outcomes.proofs.SlotRows.{row-spent}
 use Rattle.roomy_traces.specs.Roomy.{may_allocate}
 use Rattle.roomy_traces.proofs.LaneLemmas.{sum-lanes_but, by-caller}
+use Rattle.roomy_traces.proofs.SerialRows.{allocates, allocates-asked, asks}
 
--- what an operation asks for: one block, or none
-abbrev pub asks : Op → ℕ
-asks operation = cond (may_allocate operation) 1 0
-
--- only such an operation asks for a block, whatever came of that
-abbrev allocates : Deed → ℕ
-allocates (deed.gives need v words place) = 1
-allocates (deed.replaces need words place) = 1
-allocates (deed.refuses need) = 1
-allocates (deed.spends need) = 1
-allocates done = 0
-
-allocates-asked : (operation : Op) (result : Outcome) → allocates (deed_of operation result) ≤ asks operation
-allocates-asked (op.Alloc r need v) (outcome.Given words place) = omega arith
-allocates-asked (op.Alloc r need v) outcome.Refused = omega arith
-allocates-asked (op.Alloc r need v) outcome.Spent = omega arith
-allocates-asked (op.Resize r need) (outcome.Resized words place) = omega arith
-allocates-asked (op.Resize r need) outcome.Refused = omega arith
-allocates-asked (op.Resize r need) outcome.Spent = omega arith
-allocates-asked (op.Free r) outcome.Freed = omega arith
-allocates-asked (op.Put r shelf) outcome.Put = omega arith
-allocates-asked (op.Take r shelf) (outcome.Took words place need) = omega arith
-allocates-asked operation result = omega arith
-
+-- an operation is given no more blocks than it asks for
 given-by : (done : Deed) → count_with as_one (given_by done) ≤ allocates done
 given-by (deed.gives need v words place) = omega arith
 given-by (deed.replaces need words place) = omega arith
@@ -88,14 +66,14 @@ spent-not setting position others need piece few room fresh row =
     absurd (omega (arith, room, spent.3, few spent.2.before spent.2.begins))
 
 pub row-unspent :
-    (setting : Setting) (position : Position) (others : ℕ) (operation : Op) (result : Outcome) (piece : List Event)
-    → AreFewOthers setting others → position.answered + asks operation + others ≤ setting.turn_limit → position.spent ≡ false
-    → FitsRow setting position operation result piece → IsUnspent result
-row-unspent setting position others operation outcome.Spent piece few room fresh row =
-    let (need, is, spent) = row-spent setting position piece operation (held_in position.registers (register_of operation)) row in
+    (setting : Setting) (depth : ℕ) (position : CachedPosition) (others : ℕ) (operation : Op) (result : Outcome) (piece : List Event)
+    → AreFewOthers setting others → position.base.answered + asks operation + others ≤ setting.turn_limit → position.base.spent ≡ false
+    → CachedRow setting depth position operation result piece → IsUnspent result
+row-unspent setting depth position others operation outcome.Spent piece few room fresh row =
+    let (need, is, spent) = row-spent setting depth position operation piece row in
     let asked : 1 ≤ asks operation = subst (λ done. allocates done ≤ asks operation) is (allocates-asked operation outcome.Spent) in
-    spent-not setting position others need piece few (omega (arith, room, asked)) fresh spent
-row-unspent setting position others operation result piece few room fresh row = tt
+    spent-not setting position.base others need piece few (omega (arith, room, asked)) fresh spent
+row-unspent setting depth position others operation result piece few room fresh row = tt
 
 -- a caller's own events are its own, and give no block to another
 own-hers : (caller : ℕ) (events : List Event) → AllByRecursion (λ event. eqb (caller_of event) caller ≡ true) (own caller events)

@@ -1,11 +1,9 @@
 pub mod MagazineLemmas
-pub mod BareLemmas
 pub mod CountLemmas
 pub mod MostKeptLemmas
 pub mod UnspentLemmas
 pub mod UnrefusedLemmas
 pub mod SlotLemmas
-pub mod HandedLemmas
 pub mod FilledLemmas
 pub mod SerialLemmas
 pub mod ReportLemmas

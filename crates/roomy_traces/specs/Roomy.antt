@@ -1,5 +1,5 @@
 -- Traces with frames and turns to spare, and without shelves.
-use Rattle.std.specs.Prelude.{ℕ, ◌+◌, ◌*◌, ◌%◌, ◌^◌, ◌≤◌, ◌==◌, ◌∷◌, List, [], Option, Some, None, Bool, true, false, not, if◌then◌else◌, All, count_by, length, map, sum_by, max, replicate, slice_index_or, slice_set}
+use Rattle.std.specs.Prelude.{ℕ, ◌+◌, ◌*◌, ◌%◌, ◌^◌, ◌≤◌, ◌==◌, ◌∷◌, List, [], Option, Some, None, Bool, true, false, if◌then◌else◌, All, count_by, length, map, sum_by, max, replicate, slice_index_or, slice_set}
 use Rattle.std.specs.List.{range_with_len}
 use Rattle.std.specs.Option.{option_map}
 use Rattle.heap_geometry.specs.declared.need.Need.{Need}
@@ -8,7 +8,7 @@ use Rattle.heap_geometry.specs.Need.{need_of, usable_words}
 use Rattle.heap_geometry.specs.declared.limits.TheConstants.{CLASSES, SMALL_MOST}
 use Rattle.trace_text.specs.declared.limits.TheConstants.{REGISTERS}
 use Rattle.trace_text.specs.declared.trace.Op.{Op}
-use Rattle.trace_text.specs.declared.trace.Op.TheVariants.{Alloc, Free, Fill, Put, Take, Resize}
+use Rattle.trace_text.specs.declared.trace.Op.TheVariants.{Alloc, Free, Fill, Check, Put, Take, Resize}
 use Rattle.trace_text.specs.declared.trace.Trace.{Trace}
 use Rattle.lane_outcomes.specs.Deeds.{register_of}
 use Rattle.lane_outcomes.specs.LaneCounts.{as_one, count_with}
@@ -18,13 +18,15 @@ pub record Filled : Type 0 where
   pub need : Need
   pub numbers : List ℕ
 
--- the numbers in a block of so many words that was filled from a number on
-abbrev pub numbers_from : ℕ → ℕ → List ℕ
-numbers_from first words = map (λ i. (first + i) % 2 ^ 64) (range_with_len 0 words)
+-- a number for each word of a block; rising ones from the first; and those of another block, 0 past its end
+abbrev pub numbers_by : (ℕ → ℕ) → ℕ → List ℕ
+numbers_by value words = map value (range_with_len 0 words)
 
--- the numbers in a block of so many words to which these were copied: 0 past their end
+abbrev pub numbers_from : ℕ → ℕ → List ℕ
+numbers_from first words = numbers_by (λ i. (first + i) % 2 ^ 64) words
+
 abbrev pub copied : List ℕ → ℕ → List ℕ
-copied numbers words = map (λ i. slice_index_or numbers i 0) (range_with_len 0 words)
+copied numbers words = numbers_by (λ i. slice_index_or numbers i 0) words
 
 -- whether the same blocks serve two needs
 abbrev pub is_same : Need → Need → Bool
@@ -37,23 +39,50 @@ is_same need other = false
 abbrev pub filled_in : List (Option Filled) → Op → Option Filled
 filled_in registers operation = slice_index_or registers (register_of operation) None
 
--- whether a resize, whose register holds this, is to another need, so that the block moves
+-- what an operation does in a lane computed on its own, where an allocation on an empty register and a resize of a held block are given. It skips, where the
+-- register is full and wants to be empty, or the other way round; a block is given for a need, and filled from v on; or the held one is freed, is written
+-- with a value for each word, is summed, has the need already and is kept, or moves to a block for another need
+pub data Doing : Type 0 where
+  skips : Doing
+  gives : (need v : ℕ) → Doing
+  frees : Doing
+  fills : (value : ℕ → ℕ) → Doing
+  sums : Doing
+  keeps : Doing
+  moves_to : (need : ℕ) → Doing
+
+abbrev pub doing_of : Option Filled → Op → Doing
+doing_of None (Alloc r need v) = gives need v
+doing_of (Some filled) (Free r) = frees
+doing_of (Some filled) (Fill r v) = fills (λ i. (v + i) % 2 ^ 64)
+doing_of (Some filled) (Check r) = sums
+doing_of (Some filled) (Resize r need) = if is_same (need_of need) filled.need then keeps else moves_to need
+doing_of held operation = skips
+
+-- whether a block moves
+abbrev pub is_move : Doing → Bool
+is_move (moves_to need) = true
+is_move done = false
+
 abbrev pub moves : Option Filled → Op → Bool
-moves (Some filled) (Resize r need) = not (is_same (need_of need) filled.need)
-moves held operation = false
+moves held operation = is_move (doing_of held operation)
 
 -- the block to which a held one moves
 abbrev pub moved_to : ℕ → Filled → Filled
 moved_to need filled = record { need = need_of need; numbers = copied filled.numbers (usable_words (need_of need)) }
 
--- the registers after an operation whose register holds this, an allocation on an empty one and a resize of a held block being given
+-- the registers after an operation whose register holds this
+abbrev pub serial_by : List (Option Filled) → ℕ → Option Filled → Doing → List (Option Filled)
+serial_by registers r held (gives need v) =
+    slice_set registers r (Some (record { need = need_of need; numbers = numbers_from v (usable_words (need_of need)) }))
+serial_by registers r held frees = slice_set registers r None
+serial_by registers r (Some filled) (fills value) =
+    slice_set registers r (Some (record { need = filled.need; numbers = numbers_by value (length filled.numbers) }))
+serial_by registers r (Some filled) (moves_to need) = slice_set registers r (Some (moved_to need filled))
+serial_by registers r held done = registers
+
 abbrev pub serial_step : List (Option Filled) → Option Filled → Op → List (Option Filled)
-serial_step registers None (Alloc r need v) = slice_set registers r (Some (record { need = need_of need; numbers = numbers_from v (usable_words (need_of need)) }))
-serial_step registers (Some filled) (Free r) = slice_set registers r None
-serial_step registers (Some filled) (Fill r v) = slice_set registers r (Some (record { need = filled.need; numbers = numbers_from v (length filled.numbers) }))
-serial_step registers (Some filled) (Resize r need) =
-    if moves (Some filled) (Resize r need) then slice_set registers r (Some (moved_to need filled)) else registers
-serial_step registers filled operation = registers
+serial_step registers held operation = serial_by registers (register_of operation) held (doing_of held operation)
 
 -- the registers after an operation
 abbrev pub serial_after : List (Option Filled) → Op → List (Option Filled)

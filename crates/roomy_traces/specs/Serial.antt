@@ -1,24 +1,26 @@
 -- The report of a trace whose lanes are computed one after the other, each on its own, every allocation and every resize being given.
-use Rattle.std.specs.Prelude.{ℕ, ◌%◌, ◌^◌, ◌∷◌, List, [], Option, Some, None, if◌then◌else◌, length, map, sum, sum_by}
+use Rattle.std.specs.Prelude.{ℕ, ◌%◌, ◌^◌, ◌∷◌, List, [], Option, Some, length, map, sum, sum_by}
 use Rattle.heap_geometry.specs.Need.{need_of, usable_words}
 use Rattle.trace_text.specs.declared.trace.Op.{Op}
-use Rattle.trace_text.specs.declared.trace.Op.TheVariants as op
 use Rattle.trace_text.specs.declared.trace.Trace.{Trace}
 use Rattle.lane_outcomes.specs.declared.outcome.Outcome.{Outcome}
 use Rattle.lane_outcomes.specs.declared.outcome.Outcome.TheVariants as outcome
 use Rattle.lane_outcomes.specs.LaneCounts.{as_one, as_words}
 use Rattle.lane_outcomes.specs.Report.{report_with}
-use Rattle.roomy_traces.specs.Roomy.{Filled, moves, filled_in, serial_after, held_by, no_blocks}
+use Rattle.roomy_traces.specs.Roomy.{Doing, Filled, doing_of, fills, filled_in, frees, gives, held_by, keeps, moves_to, no_blocks, serial_after, sums}
 
 -- what becomes of an operation whose register holds this; a place isn't printed, and 0 stands for it
+abbrev pub outcome_by : Option Filled → Doing → Outcome
+outcome_by held (gives need v) = outcome.Given (usable_words (need_of need)) 0
+outcome_by held frees = outcome.Freed
+outcome_by held (fills value) = outcome.Filled
+outcome_by (Some filled) sums = outcome.Sum (sum filled.numbers % 2 ^ 64)
+outcome_by (Some filled) keeps = outcome.Kept (length filled.numbers) 0
+outcome_by held (moves_to need) = outcome.Resized (usable_words (need_of need)) 0
+outcome_by held done = outcome.Skipped
+
 abbrev pub serial_outcome : Option Filled → Op → Outcome
-serial_outcome None (op.Alloc r need v) = outcome.Given (usable_words (need_of need)) 0
-serial_outcome (Some filled) (op.Free r) = outcome.Freed
-serial_outcome (Some filled) (op.Fill r v) = outcome.Filled
-serial_outcome (Some filled) (op.Check r) = outcome.Sum (sum filled.numbers % 2 ^ 64)
-serial_outcome (Some filled) (op.Resize r need) =
-    if moves (Some filled) (op.Resize r need) then outcome.Resized (usable_words (need_of need)) 0 else outcome.Kept (length filled.numbers) 0
-serial_outcome held operation = outcome.Skipped
+serial_outcome held operation = outcome_by held (doing_of held operation)
 
 -- the outcomes of a lane from these registers on
 abbrev pub serial_from : List (Option Filled) → List Op → List Outcome

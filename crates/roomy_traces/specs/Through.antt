@@ -1,26 +1,32 @@
 -- Lanes through caches, each computed on its own: what its magazines keep and serve, and when a trace has frames and turns to spare for all that.
 use Rattle.std.specs.Prelude.{ℕ, suc, ◌+◌, ◌*◌, ◌-◌, ◌≤◌, ◌∷◌, List, [], Option, Some, None, if◌then◌else◌, All, count_by, max, min, nat_lt, replicate, slice_index_or, slice_set, sum, sum_by}
+use Rattle.std.specs.Option.{option_map}
 use Rattle.heap_geometry.specs.declared.need.Need.{Need}
 use Rattle.heap_geometry.specs.declared.need.Need.TheVariants.{Small}
 use Rattle.heap_geometry.specs.Need.{need_of}
 use Rattle.heap_geometry.specs.declared.limits.TheConstants.{CLASSES}
 use Rattle.trace_text.specs.declared.trace.Op.{Op}
-use Rattle.trace_text.specs.declared.trace.Op.TheVariants.{Alloc, Free, Resize}
 use Rattle.trace_text.specs.declared.trace.Trace.{Trace}
-use Rattle.roomy_traces.specs.Roomy.{Filled, IsPlain, filled_in, held_during, held_by, may_allocate, moves, no_blocks, serial_after}
+use Rattle.roomy_traces.specs.Roomy.{Doing, Filled, IsPlain, doing_of, filled_in, frees, gives, held_during, held_by, may_allocate, moves_to, no_blocks, serial_after}
 use Rattle.lane_outcomes.specs.LaneCounts.{as_one}
 
 -- the need for which an operation whose register holds this is given a block, if it is
+abbrev pub need_asked : Doing → Option Need
+need_asked (gives need v) = Some (need_of need)
+need_asked (moves_to need) = Some (need_of need)
+need_asked done = None
+
 abbrev pub asked : Option Filled → Op → Option Need
-asked None (Alloc r need v) = Some (need_of need)
-asked (Some filled) (Resize r need) = if moves (Some filled) (Resize r need) then Some (need_of need) else None
-asked held operation = None
+asked held operation = need_asked (doing_of held operation)
 
 -- the need of the block that it frees, if it frees one
+abbrev pub need_returned : Option Filled → Doing → Option Need
+need_returned held frees = option_map (λ filled. filled.need) held
+need_returned held (moves_to need) = option_map (λ filled. filled.need) held
+need_returned held done = None
+
 abbrev pub returned : Option Filled → Op → Option Need
-returned (Some filled) (Free r) = Some filled.need
-returned (Some filled) (Resize r need) = if moves (Some filled) (Resize r need) then Some filled.need else None
-returned held operation = None
+returned held operation = need_returned held (doing_of held operation)
 
 -- how many blocks the magazine of a class keeps, where there is a number for each
 abbrev pub kept_in : List ℕ → ℕ → ℕ

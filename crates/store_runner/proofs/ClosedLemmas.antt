@@ -1,12 +1,16 @@
 -- What a closed heap tells of the script that was run on it.
-use Rattle.std.proofs.Common.{ℕ, true, ◌≡◌, ◌<◌, ◌+◌, List, [], ◌∷◌, ◌++◌, All, length, take, drop, slice_index_or, count_by, refl, sym, ◌∙◌, ap, subst, arith, eqb, eq-eqb}
+use Rattle.std.proofs.Common.{ℕ, true, ◌≡◌, ◌<◌, ◌+◌, List, [], ◌∷◌, ◌++◌, All, Some, length, length-append, take, drop, slice_index_or, count_by, refl, sym, ◌∙◌, ap, subst, arith, eqb, eq-eqb}
 use Rattle.std.proofs.lemmas.List.Elements.{All-push}
+use Rattle.std.proofs.lemmas.List.Sums.{sum_by_push}
+use Rattle.std.proofs.lemmas.List.{length-map}
+use Rattle.heap_geometry.specs.Need.{need_of, usable_words}
 use Rattle.heap_geometry.specs.declared.geometry.Geometry.{Geometry}
 use Rattle.pool_model.specs.declared.event.Event.{Event}
 use Rattle.pool_model.specs.Counts.{is_alloc, is_free}
 use Rattle.pool_model.specs.Histories.{caller_of, own}
 use Rattle.pool_model.specs.Legal.{IsLegal, IsLegalWithoutCounts}
-use Rattle.pool_model.specs.Pool.{pool_of}
+use Rattle.pool_model.specs.Pool.{Block as PoolBlock, block_at, live_words, pool_of}
+use Rattle.pool_model.proofs.OwnedLemmas.{owned-found}
 use Rattle.errand_steps.specs.Begins.{IsIdle}
 use Rattle.live_heap.specs.Heaps.{HeapFields}
 use Rattle.live_heap.specs.declared.pass.Pass.{Pass}
@@ -16,10 +20,13 @@ use Rattle.live_heap.specs.Passes.{AreFrom, IsFresh, IsOf, seen}
 use Rattle.typed_store.specs.Passings.{freed_in, given_in}
 use Rattle.store_runner.specs.declared.script.Script.{Script}
 use Rattle.store_runner.specs.Closings.{IsStored, store_heap}
-use Rattle.store_runner.specs.Ends.{HasRun}
+use Rattle.typed_store.specs.Nodes.{tokens_in}
+use Rattle.store_runner.specs.Ends.{HasRun, IsSpelled}
+use Rattle.store_runner.specs.Texts.{words_with}
 use Rattle.store_runner.specs.Scripts.{list_after, values_of}
 use Rattle.typed_store.proofs.LedLemmas.{begins-on}
 use Rattle.store_runner.proofs.KeepLemmas.{keeps-same}
+use Rattle.store_runner.proofs.WordLemmas.{spelled-words, three-each, words_of}
 
 -- the one pass of a new heap
 pub one-pass :
@@ -71,6 +78,23 @@ abbrev pub StoresRead : ℕ → ClosedFields → Script → Type 0
 StoresRead rounds c script =
     (stored : IsStored rounds c) × (stored.pairs ≡ script.pairs.items) × (stored.words ≡ script.words.items)
 
+-- what is owned is live
+owned-live : (events : List Event) (place : ℕ) (block : PoolBlock) → owned_after events 0 place ≡ Some block → block_at place (pool_of events) ≡ Some block
+owned-live events place block is = (owned-found 0 (block_at place (pool_of events)) block is).0
+
+-- a spelled list and its record are all live words, where no other block is live
+all-words :
+    (rounds : ℕ) (events : List Event) → (k : IsSpelled (owned_after events 0) (list_after rounds) (values_of (list_after rounds)))
+    → length (pool_of events) ≡ length (list_after rounds) + 1 → live_words (pool_of events) ≡ words_with (length (list_after rounds))
+all-words rounds events k many =
+    let tokens = tokens_in k.slots in
+    let pairs = list_after rounds in
+    let long : length (tokens ++ k.block ∷ []) ≡ length (pool_of events) = omega (arith, length-append tokens (k.block ∷ []), k.nodes, many) in
+    let sum = spelled-words (owned_after events 0) (pool_of events) (tokens ++ k.block ∷ []) (owned-live events) k.owns long in
+    let record_words : usable_words k.block.need ≡ usable_words (need_of (length pairs + 1)) =
+    ap usable_words k.serves ∙ ap (λ n. usable_words (need_of (n + 1))) (length-map pairs (λ pair. pair.1)) in
+    omega (arith, sum, sum_by_push words_of tokens k.block, three-each tokens k.threes, k.nodes, record_words)
+
 pub closed-stored :
     (h : HeapFields) (rounds : ℕ) (script : Script) (c : ClosedFields) → SaysClosed → CountsBlocks → h.layout ≡ store_heap → HasRun h rounds script
     → HasClosed h (script.pass ∷ []) c → HasAccesses c (script.pass ∷ []) → IsResting c → IsLegal c.geometry c.events → IsLegalWithoutCounts c.geometry c.events
@@ -109,6 +133,9 @@ closed-stored h rounds script c says counted laid run closed accesses rests lega
         pairs_are = run.pairs;
         words_are = run.words;
         live = omega (arith, counted c.geometry c.events weaker, allocs, frees, run.given, run.freed);
+        live_words =
+            all-words rounds c.events kept.0
+            (omega (arith, counted c.geometry c.events weaker, allocs, frees, run.given, run.freed));
         given = allocs ∙ run.given;
         freed = omega (arith, frees, run.freed);
       },

@@ -1,6 +1,7 @@
 -- What a store's blocks spell, said of what is owned alone.
-use Rattle.std.proofs.Common.{ℕ, suc, ◌≡◌, List, [], ◌∷◌, ◌++◌, Option, Some, None, length, refl, sym, ◌∙◌, ap, subst}
+use Rattle.std.proofs.Common.{ℕ, suc, ◌≡◌, ◌+◌, List, [], ◌∷◌, ◌++◌, Option, Some, None, length, refl, sym, ◌∙◌, ap, subst}
 use Rattle.std.specs.List.{AllZip}
+use Rattle.heap_geometry.specs.Need.{need_of}
 use Rattle.pool_model.specs.Pool.{Block as PoolBlock}
 use Rattle.live_heap.specs.declared.block.Block.{Block}
 use Rattle.live_heap.specs.Heaps.{HeapFields}
@@ -20,7 +21,7 @@ use Rattle.store_runner.specs.Ends.{AreOwned, IsSpelled, ReadsBack}
 
 holds-owned : (p : Pass) (blocks : List Block) → Holds p blocks → AreOwned (owned_in p) blocks
 holds-owned p [] holds = tt
-holds-owned p (b ∷ bs) holds = ((holds.0.0.0, owned-token p b holds.0), holds.1, holds-owned p bs holds.2)
+holds-owned p (b ∷ bs) holds = ((holds.0.0.0, owned-token p b holds.0, holds.0.0.3), holds.1, holds-owned p bs holds.2)
 
 -- the one record's block
 one-record :
@@ -29,6 +30,18 @@ one-record :
 one-record p [] words are = absurd are
 one-record p (b ∷ []) words are = (b, refl, are.0)
 one-record p (b ∷ c ∷ bs) words are = absurd are.1
+
+-- which was given for these words and how many they are: those by which the store was built are as many
+one-serves :
+    (p : Pass) (block : Block) (words : List ℕ) (built : List (List ℕ)) → IsRecord p block words
+    → AllZip (λ block words. IsRecord p block words) (block ∷ []) built → AllZip (λ x words. x.need ≡ need_of (length words + 1)) (block ∷ []) built
+    → block.need ≡ need_of (length words + 1)
+one-serves p block words [] is are sized = absurd are
+one-serves p block words (w ∷ []) is are sized =
+    let both : Some (length w) ≡ Some (length words) = sym are.0.counted ∙ is.counted in
+    let same : length w ≡ length words = cc in
+    sized.0 ∙ ap (λ n. need_of (n + 1)) same
+one-serves p block words (w ∷ v ∷ ws) is are sized = absurd are.1
 
 -- blocks that spell a list and a record, and that were read last
 abbrev pub KeepsRead : (ℕ → Option PoolBlock) → HeapFields → List (ℕ × ℕ) → List ℕ → List (ℕ × ℕ) → List ℕ → Pass → Type 0
@@ -71,6 +84,10 @@ store-keeps h before t s listed pairs found words first second pairs_read record
         block = one.0;
         counted = one.2.counted;
         each = one.2.each;
+        threes = b.sized.0;
+        serves =
+            one-serves s.pass one.0 words b.words one.2 (subst (λ (l : List Block). AllZip (λ block words. IsRecord s.pass block words) l b.words) one.1 b.records.0)
+            (subst (λ (l : List Block). AllZip (λ x words. x.need ≡ need_of (length words + 1)) l b.words) one.1 b.sized.1);
         owns = holds-owned s.pass (tokens_in s.slots.items ++ one.0 ∷ []) exactly.0;
         others = exactly.1;
       },
@@ -87,7 +104,7 @@ owned-same :
     (owned now : ℕ → Option PoolBlock) (blocks : List Block) → ((place : ℕ) → now place ≡ owned place) → AreOwned owned blocks
     → AreOwned now blocks
 owned-same owned now [] same are = tt
-owned-same owned now (b ∷ bs) same are = ((are.0.0, same b.place ∙ are.0.1), are.1, owned-same owned now bs same are.2)
+owned-same owned now (b ∷ bs) same are = ((are.0.0, same b.place ∙ are.0.1, are.0.2), are.1, owned-same owned now bs same are.2)
 
 pub keeps-same :
     (owned now : ℕ → Option PoolBlock) (h : HeapFields) (pairs : List (ℕ × ℕ)) (words : List ℕ) (listed : List (ℕ × ℕ)) (found : List ℕ) (p : Pass)
@@ -104,6 +121,8 @@ keeps-same owned now h pairs words listed found p same k read = (
     block = k.block;
     counted = ap (λ (o : Option PoolBlock). word_of o 0) (same k.block.place) ∙ k.counted;
     each = λ i few. ap (λ (o : Option PoolBlock). word_of o (suc i)) (same k.block.place) ∙ k.each i few;
+    threes = k.threes;
+    serves = k.serves;
     owns = owned-same owned now (tokens_in k.slots ++ k.block ∷ []) same k.owns;
     others = λ place away. same place ∙ k.others place away;
   },

@@ -1,6 +1,7 @@
 -- What the script leaves in the caller's blocks.
 use Rattle.std.specs.Prelude.{ℕ, suc, ◌≡◌, ◌≢◌, ◌+◌, List, [], ◌∷◌, ◌++◌, All, Option, Some, None, length, slice_get}
 use Rattle.std.specs.List.{EachIndex}
+use Rattle.heap_geometry.specs.Need.{need_of}
 use Rattle.pool_model.specs.Pool.{Block as PoolBlock}
 use Rattle.errand_steps.specs.Begins.{IsIdle}
 use Rattle.live_heap.specs.declared.block.Block.{Block}
@@ -17,13 +18,13 @@ use Rattle.typed_store.specs.Walks.{LedBy, ReadsPairs, record_reads}
 use Rattle.store_runner.specs.declared.script.Script.{Script}
 use Rattle.store_runner.specs.Scripts.{HasComeTo, HasPlayed, list_after, values_of}
 
--- a block is owned at the place of each token, and no two of them are the same
+-- a block that serves the token's need is owned at the place of each token, and no two of them are the same
 abbrev pub AreOwned : (ℕ → Option PoolBlock) → List Block → Type 0
 AreOwned owned [] = Unit {0}
 AreOwned owned (token ∷ tokens) =
-    ((block : PoolBlock) × (owned token.place ≡ Some block)) × All (λ other. other.place ≢ token.place) tokens × AreOwned owned tokens
+    ((block : PoolBlock) × (owned token.place ≡ Some block) × (block.need ≡ token.need)) × All (λ other. other.place ≢ token.place) tokens × AreOwned owned tokens
 
--- the blocks that are owned spell the pairs, with one node for each, and one block more spells the words: it begins with how many they are. No block is owned but these
+-- the blocks that are owned spell the pairs, with one node for each, given for three words, and one block more spells the words: it begins with how many they are, and was given for all these. No block is owned but these
 pub record IsSpelled (owned : ℕ → Option PoolBlock) (pairs : List (ℕ × ℕ)) (words : List ℕ) : Type 0 where
   pub slots : List Slot
   pub head : ℕ
@@ -32,6 +33,8 @@ pub record IsSpelled (owned : ℕ → Option PoolBlock) (pairs : List (ℕ × �
   pub block : Block
   pub counted : word_of (owned block.place) 0 ≡ Some (length words)
   pub each : EachIndex words (λ i. word_of (owned block.place) (suc i) ≡ slice_get words i)
+  pub threes : All (λ token. token.need ≡ need_of 3) (tokens_in slots)
+  pub serves : block.need ≡ need_of (length words + 1)
   pub owns : AreOwned owned (tokens_in slots ++ block ∷ [])
   pub others : (place : ℕ) → All (λ token. token.place ≢ place) (tokens_in slots ++ block ∷ []) → owned place ≡ None
 

@@ -1,34 +1,14 @@
 -- What whole calls of a caller add to its events, and what their answers say.
 use Rattle.std.proofs.Common.{ℕ, zero, suc, ◌≡◌, ◌≢◌, ◌<◌, ◌≤◌, ◌+◌, ◌∷◌, ◌++◌, List, [], Some, None, length, map, refl, sym, ap, ◌∙◌, subst, inl, inr, arith, append_assoc, append-nil}
-use Rattle.std.specs.List.{flat_map, range_with_len, slice_index_or}
-use Rattle.std.proofs.lemmas.Bool.{cases_lt}
-use Rattle.std.proofs.lemmas.List.{get_or_past}
-use Rattle.heap_geometry.specs.declared.geometry.Geometry.{Geometry}
-use Rattle.heap_geometry.specs.declared.need.Need.{Need}
-use Rattle.pool_model.specs.declared.event.Event.{Event}
-use Rattle.pool_model.specs.declared.event.Event.TheVariants.{Take, Write}
+use Rattle.trace_lane.proofs.Common.{Geometry, Need, Event, Take, Write, Ended, EventsOf, Block, Reply, Call, HasEnded, Caller, IsAtRest, IsCall, AreMisses}
+use Rattle.trace_lane.proofs.Common.{IsLegalWithoutCounts, LeadsBy, Made, IsFullShelf, IsWord, block_at, pool_of, alloc, put, read, take, write, end_of, cases_lt, own}
+use Rattle.trace_lane.proofs.Common.{legal-weaker, own-append, leads-split, flat_map, range_with_len, slice_index_or, get_or_past, copied_word, answered, found_from}
+use Rattle.trace_lane.proofs.Common.{copied-read, copied-past, put-offers, stage_of, take-none}
 use Rattle.pool_model.specs.declared.owner.Owner.TheVariants.{Caller as CallerOf}
-use Rattle.pool_model.specs.Calls.{Ended, EventsOf}
 use Rattle.pool_model.specs.Calls as event_end
-use Rattle.pool_model.specs.Histories.{own}
-use Rattle.pool_model.specs.Legal.{IsLegalWithoutCounts}
-use Rattle.pool_model.specs.Pool.{Block, block_at, pool_of}
-use Rattle.pool_model.proofs.HistoryLemmas.{legal-weaker, own-append}
-use Rattle.errand_steps.specs.declared.reply.Reply.{Reply}
 use Rattle.errand_steps.specs.declared.reply.Reply.TheVariants as reply
-use Rattle.errand_steps.specs.Calls.{Call, alloc, put, read, take, write}
-use Rattle.sound_laws.specs.events.Ends.{HasEnded, end_of}
-use Rattle.sound_laws.specs.events.Made.{LeadsBy, Made, answered, copied_word, found_from}
-use Rattle.sound_laws.proofs.events_lemmas.CopyLemmas.{copied-past, copied-read}
-use Rattle.sound_laws.proofs.events_lemmas.OfferLemmas.{put-offers}
-use Rattle.sound_laws.specs.events.Stages.{stage_of}
-use Rattle.step_machine.proofs.SpareLemmas.{take-none}
-use Rattle.lane_engine.specs.Callers.{Caller, IsAtRest, IsCall}
-use Rattle.lane_outcomes.specs.Rows.{IsFullShelf, IsWord}
-use Rattle.trace_lane.specs.Made.{AreMisses}
 use Rattle.trace_lane.proofs.AnswerLemmas.{EndsGot, HasMovedOn, ends-full, ends-got, ends-read}
 use Rattle.trace_lane.proofs.CallerLemmas.{HasCalled, moved-none, moved-then, steps-called}
-use Rattle.lane_engine.proofs.LeadsLemmas.{leads-split}
 use Rattle.trace_lane.proofs.QuietLemmas.{AllQuiet, quiet-keeps}
 
 -- a caller rests later, and these are all events that it has added since

@@ -1,34 +1,20 @@
 -- An advance of a lane from its parts, and what its caller's moves leave of the machine.
-use Rattle.std.proofs.Common.{ℕ, Bool, true, false, eqb, ◌≡◌, ◌<◌, ◌+◌, ◌∷◌, ◌++◌, List, [], refl, sym, ap, ◌∙◌, subst, inl, inr, arith, append_assoc, ◌≢◌, Option, Some, None}
-use Rattle.std.specs.Prelude.{◌⊎◌, All, count_by, if◌then◌else◌}
-use Rattle.std.proofs.lemmas.List.Sums.{sum_by-append}
-use Rattle.std.proofs.lemmas.Bool.{cases_Bool, eq-eqb}
+use Rattle.std.proofs.Common.{ℕ, Bool, true, false, eqb, ◌≡◌, ◌<◌, ◌+◌, ◌∷◌, ◌++◌, List, [], length, refl, sym, ap, ◌∙◌, subst, inl, inr, arith, append_assoc, ◌≢◌, Option, Some, None}
+use Rattle.trace_lane.proofs.Common.{Op, MovesCore, LaneState, Event, ErrandFields, Need, Small, Large, TooLarge, FitsCall, Call, CoreFields, HasAdvanced, IsAgain}
+use Rattle.trace_lane.proofs.Common.{HasGoneOn, IsLaneOn, IsLaneOf, Grip, count_by, sum_by-append, is_spent, cases_Bool, eq-eqb, script_left, calls_in, machine_at}
+use Rattle.trace_lane.proofs.Common.{begin_answer, alloc, begun_by, begins, steps, errand_at, begun_count, begins_with}
+use Rattle.std.specs.Prelude.{◌⊎◌, All, if◌then◌else◌}
 use Rattle.std.proofs.lemmas.List.Elements.{All-nil, All-cons, All-append}
 use Rattle.std.proofs.lemmas.List.{append-nil}
-use Rattle.errand_steps.specs.Calls.{Call, take as take_call, alloc, begun_by}
+use Rattle.errand_steps.specs.Calls.{take as take_call}
 use Rattle.sound_state.specs.Moves.{is_step}
-use Rattle.sound_state.specs.Runs.{Move, begins, steps}
-use Rattle.step_machine.specs.Cores.{CoreFields, errand_at}
-use Rattle.trace_text.specs.declared.trace.Op.{Op}
-use Rattle.lane_engine.specs.Machines.{MovesCore}
+use Rattle.sound_state.specs.Runs.{Move}
 use Rattle.trace_lane.specs.Begun.{calls_of}
-use Rattle.trace_lane.specs.Advances.{HasAdvanced, StaysInCall, BeganAtMost, LaneGoesOn, IsAgain, HasGoneOn}
+use Rattle.trace_lane.specs.Advances.{StaysInCall, BeganAtMost, LaneGoesOn}
 use Rattle.trace_lane.specs.Paths.{IsBy, MovesLead}
-use Rattle.trace_lane.specs.States.{IsLaneOn, IsLaneOf}
-use Rattle.trace_lane.specs.declared.lane.LaneState.{LaneState}
-use Rattle.lane_engine.specs.declared.grip.Grip.{Grip}
-use Rattle.trace_lane.specs.Scripts.{script_left}
-use Rattle.pool_model.specs.declared.event.Event.{Event}
+use Rattle.trace_lane.specs.declared.stage.OperationStage.TheVariants as stage
 use Rattle.errand_steps.specs.Steps.{State}
-use Rattle.trace_lane.specs.Made.{calls_in}
-use Rattle.lane_engine.specs.Engines.{machine_at}
-use Rattle.errand_steps.specs.Errands.{ErrandFields, is_spent}
-use Rattle.heap_geometry.specs.declared.need.Need.{Need}
-use Rattle.heap_geometry.specs.declared.need.Need.TheVariants.{Small, Large, TooLarge}
 use Rattle.heap_geometry.specs.Need.{need_of}
-use Rattle.errand_steps.specs.Begins.{begins_with}
-use Rattle.lane_engine.specs.Begins.{begin_answer}
-use Rattle.lane_engine.specs.Callers.{FitsCall}
 use Rattle.lane_outcomes.proofs.NeedLemmas.{need-fits}
 use Rattle.errand_steps.specs.declared.reply.Begun.TheVariants as begun
 
@@ -244,25 +230,28 @@ module _ (s t : CoreFields) (lane after : LaneState Grip) where
 
   -- an operation begins, or has its outcome at once
   pub part-begins :
-      (ready : List Event → ErrandFields → List Op → List Call → LaneState Grip → Type 0)
-      → LaneGoesOn (λ seen e begun. ⊥) ready s t lane after
+      (ready : List Event → ErrandFields → List Op → List Call → LaneState Grip → Type 0) → LaneGoesOn ready s t lane after → lane.stage ≡ stage.Between
       → (seen : List Event) (e : ErrandFields) (operations : List Op) (some : List Call) → ready seen e operations some lane
       → ((calls : List Call) → IsLaneOn s operations lane calls → ready seen e operations calls lane)
       → HasAdvanced s t lane.caller operations lane after false
-  part-begins ready goes seen e operations some is all =
+  part-begins ready goes between seen e operations some is all =
+      let gone = goes.gone_on seen e operations some is in
       advance-by lane.caller false goes.begun s s t operations lane after refl goes.called
       (λ calls on.
       as-after operations (calls ++ calls_in goes.begun) goes.same_caller (goes.gone_on seen e operations calls (all calls on)).stands)
-      (elim (goes.gone_on seen e operations some is).falls [
+      (elim gone.falls [
         | inl falls ↦ inl falls
-        | inr stays ↦ absurd stays.2
+        | inr stays ↦
+            let none : begun_count lane.outcomes.items stage.Between ≡ length lane.outcomes.items = omega arith in
+            let same : begun_count after.outcomes.items after.stage ≡ length lane.outcomes.items =
+            ap (λ os. begun_count os after.stage) stays.0 ∙ ap (λ at. begun_count lane.outcomes.items at) (stays.1 ∙ between) ∙ none in
+            let more : length lane.outcomes.items + 1 ≡ length lane.outcomes.items = sym gone.count ∙ same in absurd (omega (arith, more))
       ])
 
   -- a step was made, and is answered
   pub part-steps :
       (r : CoreFields) (ready : List Event → ErrandFields → List Op → List Call → LaneState Grip → Type 0) → MovesCore r (steps lane.caller) s
-      → LaneGoesOn (λ seen e. IsAgain lane.caller seen e t.events) ready s t lane after
-      → (operations : List Op) (some : List Call) → ready r.events (errand_at r.errands lane.caller) operations some lane
+      → LaneGoesOn ready s t lane after → (operations : List Op) (some : List Call) → ready r.events (errand_at r.errands lane.caller) operations some lane
       → ((calls : List Call) → IsLaneOn r operations lane calls → ready r.events (errand_at r.errands lane.caller) operations calls lane)
       → HasAdvanced r t lane.caller operations lane after true
   part-steps r ready step goes operations some is all =
@@ -277,22 +266,19 @@ module _ (s t : CoreFields) (lane after : LaneState Grip) where
 
 -- over a machine after the call began
 pub begins-on :
-    (caller : ℕ) (call : Call) (old new : CoreFields) → MovesCore old (begins caller call) new → (begun : Option Call)
-    (again : Option Call → Type 0) (operations : List Op) (calls : List Call) (lane after : LaneState Grip)
-    → HasGoneOn (record (machine_at old caller) { errand = begun_by (errand_at old.errands caller) call }) begun again operations calls lane after
-    → HasGoneOn (machine_at new caller) begun again operations calls lane after
-begins-on caller call old new called begun again operations calls lane after gone =
+    (caller : ℕ) (call : Call) (old new : CoreFields) → MovesCore old (begins caller call) new → (seen : List Event) (e : ErrandFields)
+    (operations : List Op) (calls : List Call) (lane after : LaneState Grip)
+    → HasGoneOn (record (machine_at old caller) { errand = begun_by (errand_at old.errands caller) call }) seen e (Some call) operations calls lane after
+    → HasGoneOn (machine_at new caller) seen e (Some call) operations calls lane after
+begins-on caller call old new called seen e operations calls lane after gone =
     let to = called.moved.1 in
     let here : errand_at new.errands caller ≡ begun_by (errand_at old.errands caller) call =
     ap (λ (s : State). s.errand caller) to.after ∙ to.moves.here in
-    subst (λ g. HasGoneOn (record (machine_at new caller) { geometry = g }) begun again operations calls lane after) (sym called.heap)
-    (subst (λ h. HasGoneOn (record (machine_at old caller) { events = h; errand = errand_at new.errands caller }) begun again operations calls lane after)
+    subst (λ g. HasGoneOn (record (machine_at new caller) { geometry = g }) seen e (Some call) operations calls lane after) (sym called.heap)
+    (subst
+    (λ h. HasGoneOn (record (machine_at old caller) { events = h; errand = errand_at new.errands caller }) seen e (Some call) operations calls lane after)
     (sym (ap (λ (s : State). s.history) to.after))
-    (subst (λ e. HasGoneOn (record (machine_at old caller) { errand = e }) begun again operations calls lane after) (sym here) gone))
-
--- and added no event
-pub begins-events : (caller : ℕ) (call : Call) (old new : CoreFields) → MovesCore old (begins caller call) new → new.events ≡ old.events
-begins-events caller call old new called = ap (λ (s : State). s.history) called.moved.1.after
+    (subst (λ f. HasGoneOn (record (machine_at old caller) { errand = f }) seen e (Some call) operations calls lane after) (sym here) gone))
 
 too-large : (e : ErrandFields) (n : Need) → begins_with e n ≡ begun.TooLarge → n ≡ TooLarge
 too-large e (Small class) answer =

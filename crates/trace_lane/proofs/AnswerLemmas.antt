@@ -1,61 +1,41 @@
 -- What a step of a caller's call came to, over events alone: the call goes on, or it has ended as its answer says.
-use Rattle.std.proofs.Common.{ℕ, true, false, ◌≡◌, ◌≢◌, ◌<◌, ◌≤◌, ◌^◌, ◌∷◌, ◌++◌, List, [], Option, Some, None, refl, sym, ap, ◌∙◌, subst, inl}
-use Rattle.std.proofs.Common.{inr, arith, append-nil, append_assoc}
-use Rattle.std.proofs.lemmas.Bool.{true≢false, cases_Bool, eq-eqb}
-use Rattle.std.specs.List.{slice_index_or}
-use Rattle.heap_geometry.specs.declared.geometry.Geometry.{Geometry}
-use Rattle.heap_geometry.specs.declared.need.Need.{Need}
-use Rattle.heap_geometry.specs.declared.need.Need.TheVariants.{Small}
-use Rattle.heap_geometry.specs.Need.{IsNeed, need_of}
-use Rattle.pool_model.specs.declared.event.Event.{Event}
-use Rattle.pool_model.specs.declared.event.Event.TheVariants.{Take}
-use Rattle.pool_model.specs.declared.owner.Owner.TheVariants.{Caller, Shelf}
-use Rattle.pool_model.specs.Calls.{EventsOf}
+use Rattle.std.proofs.Common.{ℕ, true, false, ◌≡◌, ◌≢◌, ◌<◌, ◌≤◌, ◌^◌, ◌∷◌, ◌++◌, List, [], Option, Some, None, refl, sym, ap, ◌∙◌, subst, inl, inr, arith, append-nil, append_assoc}
+use Rattle.trace_lane.proofs.Common.{Geometry, Need, Small, Event, Take, EventsOf, Call, Progress, Reply, HasEnded, IsMoment, IsServed, OwnsAfter, IsNeed, Shelf, Block}
+use Rattle.trace_lane.proofs.Common.{IsLegal, IsWellFormed, IsHeapBlock, IsIdle, IsBusy, ErrandFields, IsUnderWay, IsFullShelf, IsWord, alloc, free, write, read, put, take}
+use Rattle.trace_lane.proofs.Common.{begun_by, end_of, true≢false, cases_Bool, eq-eqb, slice_index_or, own, done-told, handed_to, block_at, pool_of, pool_of-push}
+use Rattle.trace_lane.proofs.Common.{own-append, legal-weaker, every-found, sound-of, alloc_answer, is_spent, event_of, is_idle, with_event, spent-begins, put-offers}
+use Rattle.heap_geometry.specs.Need.{need_of}
+use Rattle.pool_model.specs.declared.owner.Owner.TheVariants.{Caller}
 use Rattle.pool_model.specs.Calls as ended
-use Rattle.pool_model.specs.Histories.{own}
-use Rattle.pool_model.specs.Pool.{Block, block_at, handed_to, pool_of}
-use Rattle.pool_model.specs.Legal.{IsLegal, IsLegalEvent}
-use Rattle.pool_model.specs.WellFormed.{IsPlaceFor, IsWellFormed}
-use Rattle.pool_model.proofs.HistoryLemmas.{own-append, pool_of-push, EachAfter-last, legal-weaker}
-use Rattle.pool_model.proofs.PoolLemmas.{block_at-changed_same, every-found, place-found}
-use Rattle.pool_model.proofs.WellFormedLemmas.{sound-of}
+use Rattle.pool_model.specs.Legal.{IsLegalEvent}
+use Rattle.pool_model.specs.WellFormed.{IsPlaceFor}
+use Rattle.pool_model.proofs.HistoryLemmas.{EachAfter-last}
+use Rattle.pool_model.proofs.PoolLemmas.{block_at-changed_same, place-found}
 use Rattle.word_table.specs.Actions.{is_won}
 use Rattle.word_table.specs.declared.action.Found.{Found}
 use Rattle.step_parts.specs.declared.large.point.LargePoint.{LargePoint}
 use Rattle.step_parts.specs.declared.large.point.LargePoint.TheVariants as large
-use Rattle.errand_steps.specs.Begins.{IsIdle, IsBusy, IsHeapBlock, alloc_answer, begins_alloc, alloc_begun, free_begun, write_begun, read_begun, put_begun, take_begun}
-use Rattle.errand_steps.specs.Calls.{Call, alloc, free, write, read, put, take, begun_by}
-use Rattle.errand_steps.specs.Errands.{ErrandFields, IsErrand, plan_of, settle_of, answer_of, is_spent, begins_turn, after_list, counts_lost}
-use Rattle.errand_steps.specs.Errands.{raised}
-use Rattle.errand_steps.specs.Events.{event_of}
+use Rattle.errand_steps.specs.Begins.{begins_alloc, alloc_begun, free_begun, write_begun, read_begun, put_begun, take_begun}
+use Rattle.errand_steps.specs.Errands.{IsErrand, plan_of, settle_of, answer_of, begins_turn, after_list, counts_lost, raised}
 use Rattle.errand_steps.specs.Nexts.{next_of}
 use Rattle.errand_steps.specs.Offers.{offered_at}
-use Rattle.errand_steps.specs.Points.{is_idle}
-use Rattle.errand_steps.specs.Steps.{found_at, event_at, name_at, with_event}
+use Rattle.errand_steps.specs.Steps.{found_at, event_at, name_at}
 use Rattle.errand_steps.specs.declared.next.Next.{Next}
 use Rattle.errand_steps.specs.declared.point.Point.TheVariants as point
 use Rattle.errand_steps.specs.declared.reply.Begun.TheVariants as begun
 use Rattle.errand_steps.specs.declared.reply.Offer.{Offer}
-use Rattle.errand_steps.specs.declared.reply.Progress.{Progress}
 use Rattle.errand_steps.specs.declared.reply.Progress.TheVariants as progress
-use Rattle.errand_steps.specs.declared.reply.Reply.{Reply}
 use Rattle.errand_steps.specs.declared.reply.Reply.TheVariants as reply
-use Rattle.errand_steps.proofs.AnswerLemmas.{done-told}
 use Rattle.errand_steps.proofs.EventLemmas.{event_own}
 use Rattle.errand_steps.proofs.SpentLemmas.{ends-spent, begins-at_limit}
-use Rattle.sound_laws.specs.events.Ends.{end_of, HasEnded}
-use Rattle.sound_laws.specs.events.UnderWay.{IsAboutBlock, IsUnderWay}
+use Rattle.sound_laws.specs.events.UnderWay.{IsAboutBlock}
 use Rattle.sound_laws.proofs.events_lemmas.AnswerLemmas.{step-goes_on, step-ends}
-use Rattle.sound_laws.proofs.events_lemmas.BeginsLemmas.{call-begins, started-busy, spent-begins, other-busy}
-use Rattle.sound_laws.proofs.events_lemmas.OfferLemmas.{put-offers}
+use Rattle.sound_laws.proofs.events_lemmas.BeginsLemmas.{call-begins, started-busy, other-busy}
 use Rattle.sound_state.specs.Answers.{StandsAt}
 use Rattle.sound_state.specs.Recalls.{IsOwned}
 use Rattle.sound_state.proofs.shared.StepLemmas.{raised-least}
 use Rattle.sound_state.proofs.CountedLemmas.{steps-counted}
 use Rattle.sound_laws.proofs.events_lemmas.OwnEvents.{own-with_event}
-use Rattle.lane_outcomes.specs.Rows.{IsWord, IsFullShelf}
-use Rattle.step_machine.specs.Cores.{OwnsAfter}
-use Rattle.step_machine.specs.Moments.{IsMoment, IsServed}
 use Rattle.step_machine.proofs.MomentAnswers.{moment-meant, settle-caller, settle-geometry}
 
 -- what every step does: more events are seen, of which the caller's own are these; its number and its heap stay, what it lost does not fall, and its turns stay where they are all begun
@@ -332,14 +312,18 @@ MayCall e events (read place need i) = OwnsAfter events e.caller place need
 MayCall e events (put place need shelf) = OwnsAfter events e.caller place need
 MayCall e events (take shelf) = Unit {0}
 
--- a caller with this errand has begun the call
-pub record HasBegun (e f : ErrandFields) (call : Call) : Type 0 where
-  pub busy : IsBusy f
-  pub under_way : IsUnderWay e.caller call f.point []
+-- a call that begins leaves the caller's number, its heap and what it lost, and takes no turn of one that has none left
+pub record IsKeptBy (e f : ErrandFields) : Type 0 where
   pub same_caller : f.caller ≡ e.caller
   pub same_geometry : f.geometry ≡ e.geometry
   pub lost : f.lost ≡ e.lost
   pub at_limit : e.turns ≡ e.geometry.turn_limit → f.turns ≡ e.geometry.turn_limit
+
+-- a caller with this errand has begun the call
+pub record HasBegun (e f : ErrandFields) (call : Call) : Type 0 where
+  pub busy : IsBusy f
+  pub under_way : IsUnderWay e.caller call f.point []
+  pub kept : IsKeptBy e f
 
 -- a block of the caller's is one of its heap's
 pub heap-block :
@@ -372,13 +356,6 @@ call-busy :
 call-busy e events (alloc words) about may = started-busy e words may
 call-busy e events call about may = other-busy e call about (λ words is. cc)
 
--- a call that begins leaves the caller's number, its heap and what it lost, and takes no turn of one that has none left
-record IsKeptBy (e f : ErrandFields) : Type 0 where
-  pub same_caller : f.caller ≡ e.caller
-  pub same_geometry : f.geometry ≡ e.geometry
-  pub lost : f.lost ≡ e.lost
-  pub at_limit : e.turns ≡ e.geometry.turn_limit → f.turns ≡ e.geometry.turn_limit
-
 alloc-kept : (e : ErrandFields) (words : ℕ) (need : Need) → IsKeptBy e (begins_alloc e words need)
 alloc-kept e words (Small class) =
     elim (cases_Bool (is_spent e)) [
@@ -403,15 +380,7 @@ pub call-begun :
 call-begun g caller e events call served idle may =
     let about = about-block g e events call served.own_errand.geometry served.legal may in
     let busy = call-busy e events call about may in
-    let kept = call-kept e call in
-    record {
-      busy = busy;
-      under_way = call-begins e call idle about busy;
-      same_caller = kept.same_caller;
-      same_geometry = kept.same_geometry;
-      lost = kept.lost;
-      at_limit = kept.at_limit;
-    }
+    record { busy = busy; under_way = call-begins e call idle about busy; kept = call-kept e call }
 
 -- an allocation whose caller has no turn left has not begun
 pub record HasNotBegun (e f : ErrandFields) (words : ℕ) : Type 0 where

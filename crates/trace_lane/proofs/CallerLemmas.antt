@@ -1,45 +1,21 @@
 -- What the whole calls of a caller add to its events, and what they leave it.
 use Rattle.std.proofs.Common.{ℕ, Some, zero, suc, true, false, ◌≡◌, ◌≢◌, ◌<◌, ◌∷◌, ◌++◌, List, [], refl, sym, ap, ◌∙◌, subst, arith, append_assoc, append-nil}
-use Rattle.heap_geometry.specs.declared.geometry.Geometry.{Geometry}
-use Rattle.heap_geometry.specs.declared.need.Need.{Need}
-use Rattle.heap_geometry.specs.Need.{usable_words}
-use Rattle.pool_model.specs.declared.event.Event.{Event}
-use Rattle.pool_model.specs.Calls.{Ended, EventsOf}
+use Rattle.trace_lane.proofs.Common.{Geometry, Need, Event, Ended, EventsOf, IsLegal, IsBusy, IsIdle, Call, ErrandFields, Progress, Reply, Ending, HasEnded, LeadsBy, Made}
+use Rattle.trace_lane.proofs.Common.{IsUnderWay, HasSeenMore, IsMoment, HasStepped, KeepBlocks, AnswersCall, OwnsAfter, Hands, LeavesPlace, EndsCall, IsIn, Caller}
+use Rattle.trace_lane.proofs.Common.{FitsCall, IsAtRest, IsCall, MadeBy, OwnsFor, alloc_answer, alloc, free, write, read, put, take, begun_by, usable_words, own}
+use Rattle.trace_lane.proofs.Common.{own-append, ended_as, done-told, spent-begins, event_of, with_event, begun_at, at_once, by_steps, owns-on}
 use Rattle.pool_model.specs.Calls as ended
-use Rattle.pool_model.specs.Histories.{own}
-use Rattle.pool_model.specs.Legal.{IsLegal}
-use Rattle.pool_model.proofs.HistoryLemmas.{own-append}
-use Rattle.errand_steps.specs.Begins.{IsBusy, IsIdle, alloc_answer}
-use Rattle.errand_steps.specs.Calls.{Call, alloc, free, write, read, put, take, begun_by}
-use Rattle.errand_steps.specs.Errands.{ErrandFields}
-use Rattle.errand_steps.specs.Told.{ended_as}
 use Rattle.errand_steps.specs.declared.reply.Begun.{Begun}
 use Rattle.errand_steps.specs.declared.reply.Begun.TheVariants as begun
-use Rattle.errand_steps.specs.declared.reply.Progress.{Progress}
 use Rattle.errand_steps.specs.declared.reply.Progress.TheVariants as progress
-use Rattle.errand_steps.specs.declared.reply.Reply.{Reply}
 use Rattle.errand_steps.specs.declared.reply.Reply.TheVariants as reply
-use Rattle.errand_steps.specs.declared.told.Ending.{Ending}
 use Rattle.errand_steps.specs.declared.told.Ending.TheVariants as ending
 use Rattle.errand_steps.specs.declared.told.Stepped.TheVariants as stepped
-use Rattle.errand_steps.proofs.AnswerLemmas.{done-told}
-use Rattle.sound_laws.specs.events.Ends.{HasEnded}
-use Rattle.sound_laws.specs.events.Made.{LeadsBy, Made}
-use Rattle.sound_laws.specs.events.UnderWay.{IsUnderWay}
-use Rattle.sound_laws.proofs.events_lemmas.BeginsLemmas.{too_large-stays, spent-begins}
-use Rattle.errand_steps.specs.Events.{event_of}
-use Rattle.errand_steps.specs.Steps.{with_event}
-use Rattle.step_machine.specs.Cores.{OwnsAfter}
-use Rattle.step_machine.specs.Keeping.{Hands, LeavesPlace}
-use Rattle.step_machine.specs.Moments.{HasSeenMore, IsMoment}
+use Rattle.sound_laws.proofs.events_lemmas.BeginsLemmas.{too_large-stays}
 use Rattle.step_machine.proofs.MomentAnswers.{moment-given, moment-got}
-use Rattle.lane_engine.specs.Callers.{Caller, EndsCall, FitsCall, IsAtRest, IsCall, IsIn, MadeBy, OwnsFor, StepsOn, at_once, begun_at, by_steps}
-use Rattle.lane_engine.specs.Told.{HasStepped}
-use Rattle.lane_engine.specs.Whole.{KeepBlocks}
-use Rattle.trace_lane.specs.Advances.{AnswersCall}
-use Rattle.trace_lane.proofs.AnswerLemmas.{HasBegun, HasMovedOn, MayCall, ends-full, ends-given, ends-not}
-use Rattle.trace_lane.proofs.AnswerLemmas.{behind, call-begun, goes-on as call-goes_on, has-ended, heap-block, moved-on, settled-of}
-use Rattle.step_machine.proofs.ApartLemmas.{ended-spares, given-apart, got-apart, owns-on}
+use Rattle.lane_engine.specs.Callers.{StepsOn}
+use Rattle.trace_lane.proofs.AnswerLemmas.{HasBegun, HasMovedOn, MayCall, ends-full, ends-given, ends-not, behind, call-begun, goes-on as call-goes_on, has-ended, heap-block, moved-on, settled-of}
+use Rattle.step_machine.proofs.ApartLemmas.{ended-spares, given-apart, got-apart}
 use Rattle.trace_lane.proofs.NeedLemmas.{need-some}
 
 -- a step of a caller is one from where it stood earlier, whatever others did in between
@@ -104,10 +80,10 @@ moved-begun e f call events b = record {
   seen = sym (append-nil events);
   own_rest = refl;
   own_events = sym (append-nil (own e.caller events));
-  same_caller = b.same_caller;
-  same_geometry = b.same_geometry;
-  lost = let same = b.lost in omega (arith, same);
-  at_limit = b.at_limit;
+  same_caller = b.kept.same_caller;
+  same_geometry = b.kept.same_geometry;
+  lost = let same = b.kept.lost in omega (arith, same);
+  at_limit = b.kept.at_limit;
 }
 
 busy-not_idle : (e : ErrandFields) → IsIdle e → IsBusy e → ⊥
@@ -132,7 +108,7 @@ module _ (c : Caller) (call : Call) (begins : HasBegun c.errand (begun_by c.erra
   way-first = record {
     added = [];
     moved = moved-begun c.errand (begun_by c.errand call) call c.seen begins;
-    under_way = subst (λ k. IsUnderWay k call (begun_by c.errand call).point []) (sym begins.same_caller) begins.under_way;
+    under_way = subst (λ k. IsUnderWay k call (begun_by c.errand call).point []) (sym begins.kept.same_caller) begins.under_way;
   }
 
   way-step :

@@ -1,32 +1,94 @@
--- Where the answer of its call leads an operation: to its next call, or to its outcome.
-use Rattle.std.proofs.Common.{ℕ, ◌≡◌, ◌<◌, ◌≤◌, ◌+◌, ◌∷◌, ◌++◌, List, [], Option, Some, None, length, min, refl, sym, ap, ◌∙◌, subst, inl, inr}
-use Rattle.std.proofs.Common.{arith, append_assoc, append-nil, nat_lt, true, get_or-set_same}
-use Rattle.std.specs.Prelude.{slice_set}
-use Rattle.std.proofs.lemmas.Bool.{cases_lt, cases_Bool, ltb-true, lt-ltb}
-use Rattle.std.proofs.lemmas.List.{length-append, length-set, set-get_or, set-set}
+-- Of each operation: what its calls do to blocks; where the answer of its call leads it, to its next call or to its outcome; and on what the call under way is.
+use Rattle.std.proofs.Common.{ℕ, ◌≡◌, ◌<◌, ◌≤◌, ◌+◌, ◌∷◌, ◌++◌, List, [], Option, Some, None, length, min, refl, sym, ap, ◌∙◌, subst, inl, inr, arith, append_assoc, append-nil, nat_lt, true, get_or-set_same}
+use Rattle.trace_lane.proofs.Common.{read, Need, Reply, Ending, Call, Made, HeldBlock, OperationStage, Op, Outcome, Event, OwnsFor, FitsCall, REGISTERS, OwnsAfter, IsOp, Deed}
+use Rattle.trace_lane.proofs.Common.{IsNeed, Hands, LeavesPlace, IsShort, AnswersCall, DoingOf, MadeFor, OnBlock, alloc, free, write, put, take, answered, copied}
+use Rattle.trace_lane.proofs.Common.{found_from, wrote, deed_of, length-append, length-set, set-get_or, set-set, held_in, registers_after, held_by, stage_begun}
+use Rattle.trace_lane.proofs.Common.{range_with_len, begun_bound, cases_lt, cases_Bool, usable_words, copied-past, behind, word_behind, call_at, fills, frees, held_there}
+use Rattle.trace_lane.proofs.Common.{reads, slice_set}
+use Rattle.std.proofs.lemmas.Bool.{ltb-true, lt-ltb}
 use Rattle.std.proofs.Math.Nat.{min-eq_left, min-eq_right}
-use Rattle.heap_geometry.specs.declared.need.Need.{Need}
-use Rattle.heap_geometry.specs.Need.{need_of, usable_words}
-use Rattle.errand_steps.specs.declared.reply.Reply.{Reply}
+use Rattle.heap_geometry.specs.Need.{need_of}
+use Rattle.lane_outcomes.specs.Deeds as deed
 use Rattle.errand_steps.specs.declared.reply.Reply.TheVariants as reply
-use Rattle.errand_steps.specs.declared.told.Ending.{Ending}
 use Rattle.errand_steps.specs.declared.told.Ending.TheVariants as ending
-use Rattle.errand_steps.specs.Calls.{Call, alloc, free, write, put}
-use Rattle.sound_laws.specs.events.Made.{Made, answered, copied, found_from, wrote}
 use Rattle.sound_laws.proofs.events_lemmas.MadeLemmas.{found-more, sum-one, wrote-more}
-use Rattle.sound_laws.proofs.events_lemmas.CopyLemmas.{copied-more, copied-one, copied-past}
+use Rattle.sound_laws.proofs.events_lemmas.CopyLemmas.{copied-more, copied-one}
 use Rattle.trace_text.specs.declared.trace.Op.TheVariants as op
-use Rattle.lane_outcomes.specs.declared.registers.HeldBlock.{HeldBlock}
 use Rattle.lane_outcomes.specs.declared.outcome.Outcome.TheVariants as outcome
-use Rattle.lane_outcomes.specs.Lane.{held_in, registers_after}
-use Rattle.trace_lane.specs.Advances.{AnswersCall, IsShort, behind, total_with, word_behind}
-use Rattle.trace_lane.specs.declared.stage.OperationStage.{OperationStage}
+use Rattle.trace_lane.specs.Advances.{total_with}
 use Rattle.trace_lane.specs.declared.stage.OperationStage.TheVariants as stage
-use Rattle.trace_lane.specs.Doing.{DoingOf, IsInside, IsReadFor, IsReplacing, call_at, fills, frees, held_of, held_there, reads, replacing}
-use Rattle.trace_lane.specs.Made.{MadeFor, OnBlock}
-use Rattle.trace_lane.specs.Paths.{held_by}
-use Rattle.trace_lane.specs.Scripts.{stage_begun}
+use Rattle.trace_lane.specs.Made.{IsInside, IsReadFor, IsReplacing, held_of, replacing}
+use Rattle.trace_lane.proofs.EachCall.{AllCalls, IsLight, Leaves, all-append, all-copied, all-found, all-misses, all-takes, all-wrote, leaves, light}
 use Rattle.trace_lane.proofs.MadeLemmas.{misses-more}
+use Rattle.trace_lane.proofs.NeedLemmas.{need-words}
+use Rattle.std.specs.Prelude.{◌⊎◌, ◌≢◌, ◌*◌}
+
+-- a block is handed out by one call, and the others are on words, or takes
+abbrev pub HandsOut : ℕ → Need → List Made → Type 0
+HandsOut place need made =
+    (first : List Made) × (call : Call) × (answer : Reply) × (rest : List Made) × (made ≡ first ++ answered call answer ∷ rest)
+    × Hands answer place need × ((at : ℕ) → LeavesPlace call at) × AllCalls IsLight first × AllCalls IsLight rest
+
+-- the block of a full register is given away by one call
+abbrev pub GivesAway : Option HeldBlock → List Made → Type 0
+GivesAway slot made =
+    (held : HeldBlock) × (slot ≡ Some held) × (call : Call) × (answer : Reply) × (made ≡ answered call answer ∷ [])
+    × ((at : ℕ) → at ≢ held.place → LeavesPlace call at)
+
+-- what the calls of a deed do to blocks
+abbrev pub HandlesBy : Option HeldBlock → Deed → List Made → Type 0
+HandlesBy slot (deed.gives need v words place) made = HandsOut place (need_of need) made
+HandlesBy slot (deed.takes words place need) made = HandsOut place need made
+HandlesBy slot (deed.replaces need words place) made =
+    (held : HeldBlock) × (slot ≡ Some held) × (copies : List Made) × AllCalls IsLight copies
+    × (made ≡ answered (alloc need) (reply.Given place (need_of need)) ∷ copies ++ answered (free held.place held.need) reply.Freed ∷ [])
+HandlesBy slot deed.frees made = GivesAway slot made
+HandlesBy slot deed.lays made = GivesAway slot made
+HandlesBy slot (deed.refuses need) made = made ≡ answered (alloc need) reply.Refused ∷ []
+HandlesBy slot (deed.spends need) made = made ≡ answered (alloc need) reply.Spent ∷ []
+HandlesBy slot deed.stays made =
+    AllCalls IsLight made
+    ⊎ ((place : ℕ) × (need : Need) × (shelf : ℕ) × (found : ℕ) × (made ≡ answered (put place need shelf) (reply.Full found) ∷ []))
+
+light-by : (made calls : List Made) → made ≡ calls → AllCalls IsLight calls → AllCalls IsLight made
+light-by made calls is all = subst (AllCalls IsLight) (sym is) all
+
+-- what the calls of each operation with its outcome do to blocks
+pub made-handles :
+    (operation : Op) (result : Outcome) (slot : Option HeldBlock) (made : List Made) → MadeFor slot operation result made
+    → HandlesBy slot (deed_of operation result) made
+made-handles (op.Alloc r need v) outcome.Skipped slot made (skip, none) = inl (light-by made [] none tt)
+made-handles operation outcome.Skipped slot made (skip, none) = inl (light-by made [] none tt)
+made-handles (op.Alloc r need v) (outcome.Given words place) None made (words_are, calls) =
+    ([], alloc need, reply.Given place (need_of need), wrote place (need_of need) v words, calls, (refl, refl), (λ at. tt), tt, all-wrote light place (need_of need) v words)
+made-handles (op.Alloc r need v) outcome.Refused None made calls = calls
+made-handles (op.Alloc r need v) outcome.Spent None made calls = calls
+made-handles (op.Free r) outcome.Freed (Some held) made (words, calls) = (held, refl, free held.place held.need, reply.Freed, calls, λ at differ. differ)
+made-handles (op.Fill r v) outcome.Filled (Some held) made (words, calls) =
+    inl (light-by made (wrote held.place held.need v held.words) calls (all-wrote light held.place held.need v held.words))
+made-handles (op.Check r) (outcome.Sum total) (Some held) made (words_are, (words, all, total_is, calls)) =
+    inl (light-by made (found_from held.place held.need 0 words) calls (all-found light held.place held.need 0 words))
+made-handles (op.Put r shelf) outcome.Put (Some held) made (words, calls) =
+    (held, refl, put held.place held.need shelf, reply.Put, calls, λ at differ. differ)
+made-handles (op.Put r shelf) outcome.ShelfFull (Some held) made (words, (found, calls)) = inr (held.place, held.need, shelf, found, calls)
+made-handles (op.Take r shelf) (outcome.Took words place need) None made (misses, are, words_are, calls) =
+    (misses, take shelf, reply.Got place need, [], calls, (refl, refl), (λ at. tt), all-misses light shelf misses are, tt)
+made-handles (op.Take r shelf) outcome.ShelfEmpty None made (misses, are, calls) =
+    inl (light-by made (misses ++ answered (take shelf) reply.Empty ∷ []) calls (all-takes light shelf misses reply.Empty are))
+made-handles (op.Resize r need) (outcome.Kept words place) (Some held) made (serves, words_are, place_is, calls) = inl (light-by made [] calls tt)
+made-handles (op.Resize r need) (outcome.Resized words place) (Some held) made (differ, words_are, has, found, all, calls) =
+    let n = need_of need in (
+      held,
+      refl,
+      copied held.place held.need place n found words,
+      all-copied light held.place held.need place n found (range_with_len 0 words),
+      calls,
+    )
+made-handles (op.Resize r need) outcome.Refused (Some held) made (differ, calls) = calls
+made-handles (op.Resize r need) outcome.Spent (Some held) made (differ, calls) = calls
+made-handles (op.Alloc r need v) result None made calls = absurd calls
+made-handles operation result None made calls = absurd calls
+made-handles operation result (Some held) made calls = absurd calls
 
 -- the word behind one of a block, or none
 pub behind-some : (i words next : ℕ) → Some next ≡ behind i words → (next ≡ i + 1) × (i + 1 < words)
@@ -491,19 +553,147 @@ module _ {B : Type 0} (place_of : B → ℕ) (block_need : B → Need) (before r
   copying-few r need i old None at made within is a short =
       absurd (subst (λ k. Answers (call_at before registers (op.Resize r need) k) ending.Wrote) is a)
 
--- the stages of a copy rise
-pub rises-past :
-    {at : OperationStage} {old : HeldBlock} {i next : ℕ} {w : Option ℕ} → at ≡ stage.Copying old i w → next ≡ i + 1
-    → stage_begun at < stage_begun (stage.Copying old next None)
-rises-past {at = at} {old = old} {i = i} {next = next} {w = None} is more =
-    subst (λ k. stage_begun k < stage_begun (stage.Copying old next None)) (sym is) (omega (arith, more))
-rises-past {at = at} {old = old} {i = i} {next = next} {w = Some word} is more =
-    subst (λ k. stage_begun k < stage_begun (stage.Copying old next None)) (sym is) (omega (arith, more))
+-- how far a copy of word i is
+pub rises-to : {at : OperationStage} {old : HeldBlock} {i : ℕ} {w : Option ℕ} → at ≡ stage.Copying old i w → stage_begun at ≤ 2 * i + 3
+rises-to {i = i} {w = None} is = subst (λ k. stage_begun k ≤ 2 * i + 3) (sym is) (omega arith)
+rises-to {i = i} {w = Some word} is = subst (λ k. stage_begun k ≤ 2 * i + 3) (sym is) (omega arith)
 
-pub rises-over :
-    {at : OperationStage} {old : HeldBlock} {i next : ℕ} {w : Option ℕ} → at ≡ stage.Copying old i w → next ≡ i + 1
-    → stage_begun at < stage_begun (stage.Copying old next (Some 0))
-rises-over {at = at} {old = old} {i = i} {next = next} {w = None} is more =
-    subst (λ k. stage_begun k < stage_begun (stage.Copying old next (Some 0))) (sym is) (omega (arith, more))
-rises-over {at = at} {old = old} {i = i} {next = next} {w = Some word} is more =
-    subst (λ k. stage_begun k < stage_begun (stage.Copying old next (Some 0))) (sym is) (omega (arith, more))
+-- the need of the block whose word is written or read is one that blocks have
+abbrev pub HasNeed : Call → Type 0
+HasNeed (write place need i v) = IsNeed need
+HasNeed (read place need i) = IsNeed need
+HasNeed call = Unit {0}
+
+-- the call's block has words
+abbrev pub HasWords : Call → Type 0
+HasWords (write place need i v) = 0 < usable_words need
+HasWords (read place need i) = 0 < usable_words need
+HasWords call = Unit {0}
+
+-- these calls leave this block to its caller, which held it before; or the first of them has given it
+abbrev pub IsHad : List (Option HeldBlock) → HeldBlock → List Made → Type 0
+IsHad before held made =
+    ((r : ℕ) × (held_in before r ≡ Some held) × AllCalls (Leaves held.place) made)
+    ⊎ ((words : ℕ) × (rest : List Made) × (made ≡ answered (alloc words) (reply.Given held.place held.need) ∷ rest) × AllCalls IsLight rest)
+
+-- the call under way is on no block; or on such a one
+abbrev pub IsOnHad : List (Option HeldBlock) → Call → List Made → Type 0
+IsOnHad before call made =
+    ((events : List Event) (caller : ℕ) → OwnsFor events caller call)
+    ⊎ ((held : HeldBlock) × ((events : List Event) (caller : ℕ) → OwnsAfter events caller held.place held.need → OwnsFor events caller call)
+    × IsHad before held made)
+
+-- what is said of the call under way: on what it is; its numbers are in their ranges, where its block has words; and an operation has few calls
+pub record IsUnder (before : List (Option HeldBlock)) (call : Call) (at : OperationStage) (made : List Made) : Type 0 where
+  pub on : IsOnHad before call made
+  pub fits : HasWords call → FitsCall call
+  pub few : FitsCall call → HasNeed call → stage_begun at < begun_bound
+
+module _ (before registers : List (Option HeldBlock)) where
+  -- a word of a block is written or read
+  word-fits :
+      (h held : HeldBlock) (i : ℕ) → h ≡ held → held.words ≡ usable_words held.need → IsInside i held.words → 0 < usable_words h.need
+      → i < usable_words h.need
+  word-fits h held i same words inside some =
+      let positive = subst (λ (x : HeldBlock). 0 < usable_words x.need) same some in
+      let below = inside (omega (arith, positive, words)) in
+      subst (λ (x : HeldBlock). i < usable_words x.need) (sym same) (omega (arith, below, words))
+
+  owned-as : (h held : HeldBlock) → h ≡ held → (events : List Event) (caller : ℕ) → OwnsAfter events caller held.place held.need
+      → OwnsAfter events caller h.place h.need
+  owned-as h held same events caller own = subst (λ (x : HeldBlock). OwnsAfter events caller x.place x.need) (sym same) own
+
+  writes-under :
+      (h held : HeldBlock) (i word : ℕ) (at : OperationStage) (made : List Made) → h ≡ held → held.words ≡ usable_words held.need → IsInside i held.words
+      → IsHad before held made → stage_begun at ≤ 2 * i + 3 → IsUnder before (write h.place h.need i word) at made
+  writes-under h held i word at made same words inside had few = record {
+    on = inr (held, owned-as h held same, had);
+    fits = word-fits h held i same words inside;
+    few = λ fits has. omega (arith, few, fits, need-words h.need has);
+  }
+
+  reads-under :
+      (h held : HeldBlock) (i : ℕ) (at : OperationStage) (made : List Made) → h ≡ held → held.words ≡ usable_words held.need → IsInside i held.words
+      → IsHad before held made → stage_begun at ≤ 2 * i + 3 → IsUnder before (reads h i) at made
+  reads-under h held i at made same words inside had few = record {
+    on = inr (held, owned-as h held same, had);
+    fits = word-fits h held i same words inside;
+    few = λ fits has. omega (arith, few, fits, need-words h.need has);
+  }
+
+  -- a register's block that calls leave
+  left-by :
+      (r : ℕ) (held : HeldBlock) (made calls : List Made) → held_in before r ≡ Some held → made ≡ calls → AllCalls (Leaves held.place) calls
+      → IsHad before held made
+  left-by r held made calls full is all = inl (r, full, subst (AllCalls (Leaves held.place)) (sym is) all)
+
+  replacing-leaves :
+      (old : HeldBlock) (place need : ℕ) (words : List ℕ) (count : ℕ) → AllCalls (Leaves old.place) (replacing old place need words count)
+  replacing-leaves old place need words count =
+      (tt, all-copied (leaves old.place) old.place old.need place (need_of need) words (range_with_len 0 count))
+
+  read-light : (old : HeldBlock) (i word : ℕ) (got : List Made) → IsReadFor old i word got → AllCalls IsLight got
+  read-light old i word got (inl (inside, is)) = light-by got (answered (reads old i) (reply.Word word) ∷ []) is (tt, tt)
+  read-light old i word got (inr (past, zero_is, none)) = light-by got [] none tt
+
+  pub doing-under :
+      (operation : Op) (at : OperationStage) (made : List Made) → length registers ≡ REGISTERS → IsOp operation → DoingOf before registers operation at made
+      → IsUnder before (call_at before registers operation at) at made
+  doing-under (op.Alloc r need v) stage.Calling made size is doing =
+      record { on = inl (λ events caller. tt); fits = λ some. is.1; few = λ fits has. omega arith }
+  doing-under (op.Alloc r need v) (stage.Filling i) made size is (place, none, set, inside, made_is) =
+      let new : HeldBlock = held_of place (need_of need) in
+      writes-under (held_there (held_in registers r)) new i _ (stage.Filling i) made
+      (ap held_there (set-there before registers r new (omega (arith, size, is.0)) set)) refl inside
+      (inr (need, wrote place (need_of need) v i, made_is, all-wrote light place (need_of need) v i)) (omega arith)
+  doing-under (op.Free r) stage.Calling made size is doing =
+      let on = on-block (held_in before r) _ doing in record {
+        on = inr (on.held, owned-as (held_there (held_in before r)) on.held (ap held_there on.full), left-by r on.held made [] on.full on.so.1 tt);
+        fits = λ some. tt;
+        few = λ fits has. omega arith;
+      }
+  doing-under (op.Fill r v) (stage.Filling i) made size is doing =
+      let on = on-block (held_in before r) _ doing in
+      writes-under (held_there (held_in registers r)) on.held i _ (stage.Filling i) made
+      (ap (λ rs. held_there (held_in rs r)) on.so.0 ∙ ap held_there on.full) on.words on.so.1
+      (left-by r on.held made (wrote on.held.place on.held.need v i) on.full on.so.2 (all-wrote (leaves on.held.place) on.held.place on.held.need v i))
+      (omega arith)
+  doing-under (op.Check r) (stage.Summing i total) made size is doing =
+      let on = on-block (held_in before r) _ doing in
+      let (same, inside, words, all, total_is, made_is) = on.so in
+      reads-under (held_there (held_in registers r)) on.held i (stage.Summing i total) made
+      (ap (λ rs. held_there (held_in rs r)) same ∙ ap held_there on.full) on.words inside
+      (left-by r on.held made (found_from on.held.place on.held.need 0 words) on.full made_is (all-found (leaves on.held.place) on.held.place on.held.need 0 words))
+      (omega arith)
+  doing-under (op.Put r shelf) stage.Calling made size is doing =
+      let on = on-block (held_in before r) _ doing in record {
+        on = inr (on.held, owned-as (held_there (held_in before r)) on.held (ap held_there on.full), left-by r on.held made [] on.full on.so.1 tt);
+        fits = λ some. is.1;
+        few = λ fits has. omega arith;
+      }
+  doing-under (op.Take r shelf) stage.Calling made size is doing =
+      record { on = inl (λ events caller. tt); fits = λ some. is.1; few = λ fits has. omega arith }
+  doing-under (op.Resize r need) stage.Calling made size is doing =
+      record { on = inl (λ events caller. tt); fits = λ some. is.1; few = λ fits has. omega arith }
+  doing-under (op.Resize r need) (stage.Copying old i None) made size is (place, rep, inside, within, words, all, made_is) =
+      reads-under old old i (stage.Copying old i None) made refl rep.serves inside
+      (left-by r old made (replacing old place need words i) rep.was made_is (replacing-leaves old place need words i)) (omega arith)
+  doing-under (op.Resize r need) (stage.Copying old i (Some w)) made size is (place, rep, inside, words, all, got, got_is, made_is) =
+      let new : HeldBlock = held_of place (need_of need) in
+      let copies = copied old.place old.need place (need_of need) words i in
+      writes-under (held_there (held_in registers r)) new i w (stage.Copying old i (Some w)) made
+      (ap held_there (set-there before registers r new (omega (arith, size, is.0)) rep.replaced)) refl inside
+      (inr
+      (need, copies ++ got, made_is, all-append light copies got (all-copied light old.place old.need place (need_of need) words (range_with_len 0 i)) (read-light old i w got got_is)))
+      (omega arith)
+  doing-under (op.Resize r need) stage.Releasing made size is (old, place, rep, words, all, made_is) =
+      let count = usable_words (need_of need) in record {
+        on = inr (
+          old,
+          owned-as (held_there (held_in before r)) old (ap held_there rep.was),
+          left-by r old made (replacing old place need words count) rep.was made_is (replacing-leaves old place need words count),
+        );
+        fits = λ some. tt;
+        few = λ fits has. omega arith;
+      }
+  doing-under operation at made size is doing = absurd doing

@@ -1,15 +1,8 @@
 -- What holds of each of some whole calls.
 use Rattle.std.proofs.Common.{ℕ, suc, ◌%◌, ◌+◌, ◌^◌, ◌∷◌, ◌++◌, List, [], length, map, sym, subst, inl, inr}
-use Rattle.std.specs.List.{flat_map, range_with_len}
-use Rattle.std.proofs.lemmas.Bool.{cases_lt}
-use Rattle.heap_geometry.specs.declared.need.Need.{Need}
-use Rattle.errand_steps.specs.declared.reply.Reply.{Reply}
+use Rattle.trace_lane.proofs.Common.{Need, Reply, Call, LeavesPlace, AreMisses, Made, read, take, write, cases_lt, flat_map, range_with_len, copied_word, answered}
+use Rattle.trace_lane.proofs.Common.{found_from, wrote, copied-read, copied-past}
 use Rattle.errand_steps.specs.declared.reply.Reply.TheVariants as reply
-use Rattle.errand_steps.specs.Calls.{Call, read, take, write}
-use Rattle.step_machine.specs.Keeping.{LeavesPlace}
-use Rattle.sound_laws.specs.events.Made.{Made, answered, copied_word, found_from, wrote}
-use Rattle.sound_laws.proofs.events_lemmas.CopyLemmas.{copied-past, copied-read}
-use Rattle.trace_lane.specs.Made.{AreMisses}
 
 abbrev pub AllCalls : (Call → Type 0) → List Made → Type 0
 AllCalls P [] = Unit {0}
@@ -21,8 +14,28 @@ pub record IsOnWords (P : Call → Type 0) : Type 0 where
   pub reads : (place : ℕ) (need : Need) (i : ℕ) → P (read place need i)
   pub takes : (shelf : ℕ) → P (take shelf)
 
+-- a call on a word, or a take
+abbrev pub IsLight : Call → Type 0
+IsLight (write place need i value) = Unit {0}
+IsLight (read place need i) = Unit {0}
+IsLight (take shelf) = Unit {0}
+IsLight call = ⊥
+
+pub light : IsOnWords IsLight
+light = record { writes = λ place need i value. tt; reads = λ place need i. tt; takes = λ shelf. tt }
+
 module _ {P : Call → Type 0} (on : IsOnWords P) where
-  all-append : (made more : List Made) → AllCalls P made → AllCalls P more → AllCalls P (made ++ more)
+  light-so : (call : Call) → IsLight call → P call
+  light-so (write place need i value) is = on.writes place need i value
+  light-so (read place need i) is = on.reads place need i
+  light-so (take shelf) is = on.takes shelf
+  light-so call is = absurd is
+
+  pub all-light : (made : List Made) → AllCalls IsLight made → AllCalls P made
+  all-light [] all = tt
+  all-light (m ∷ made) all = (light-so m.call all.0, all-light made all.1)
+
+  pub all-append : (made more : List Made) → AllCalls P made → AllCalls P more → AllCalls P (made ++ more)
   all-append [] more one two = two
   all-append (m ∷ made) more one two = (one.0, all-append made more one.1 two)
 

@@ -1,30 +1,11 @@
 -- A lane before its first operation, one beside others, and one that has all outcomes.
 use Rattle.std.proofs.Common.{ℕ, ◌≡◌, ◌++◌, List, [], Option, Some, None, length, refl, sym, ap, ◌∙◌, subst, arith, append_assoc, append-nil}
-use Rattle.std.proofs.Math.ListN.{length-replicate}
-use Rattle.heap_geometry.specs.declared.geometry.Geometry.{Geometry}
-use Rattle.pool_model.specs.declared.event.Event.{Event}
-use Rattle.pool_model.specs.Histories.{own}
-use Rattle.pool_model.proofs.HistoryLemmas.{own-append}
-use Rattle.errand_steps.specs.Begins.{IsIdle}
-use Rattle.errand_steps.specs.Calls.{Call}
-use Rattle.errand_steps.specs.Errands.{ErrandFields, open_errand}
-use Rattle.sound_laws.specs.events.Made.{LeadsBy, Made}
-use Rattle.step_machine.specs.Moments.{HasSeenMore, IsServed}
-use Rattle.step_machine.proofs.MomentLemmas.{same-seen}
-use Rattle.trace_text.specs.declared.limits.TheConstants.{REGISTERS}
-use Rattle.trace_text.specs.declared.trace.Op.{Op}
-use Rattle.lane_engine.specs.Callers.{Caller, IsAtRest, IsCall, new_caller}
-use Rattle.lane_engine.specs.Engines.{Engine}
-use Rattle.lane_outcomes.specs.declared.registers.HeldBlock.{HeldBlock}
-use Rattle.lane_outcomes.specs.declared.outcome.Outcome.{Outcome}
-use Rattle.trace_lane.specs.declared.lane.LaneState.{LaneState}
-use Rattle.trace_lane.specs.declared.stage.OperationStage.{OperationStage}
+use Rattle.trace_lane.proofs.Common.{Geometry, Event, IsIdle, Call, LeadsBy, Made, HasSeenMore, IsServed, REGISTERS, Op, Caller, IsAtRest, IsCall, HeldBlock, Outcome}
+use Rattle.trace_lane.proofs.Common.{LaneState, OperationStage, AllMadeFor, IsMaking, IsLane, StandsBy, ErrandFields, Engine, Scripts, IsLaneOf, length-replicate}
+use Rattle.trace_lane.proofs.Common.{new_caller, own, own-append, same-seen, calls_in, calls_made, registers_from, registers_at}
+use Rattle.errand_steps.specs.Errands.{open_errand}
 use Rattle.trace_lane.specs.declared.stage.OperationStage.TheVariants as stage
-use Rattle.trace_lane.specs.Doing.{AllMadeFor, IsMaking}
-use Rattle.trace_lane.specs.Lanes.{IsLane, StandsBy}
-use Rattle.trace_lane.specs.Made.{calls_in, calls_made}
-use Rattle.trace_lane.specs.Scripts.{Scripts, registers_from}
-use Rattle.trace_lane.specs.States.{IsLaneOf, IsNew, registers_at}
+use Rattle.trace_lane.specs.States.{IsNew}
 use Rattle.trace_lane.proofs.CallerLemmas.{Owns, leads-first}
 use Rattle.trace_lane.proofs.MakingLemmas.{empty, making-between}
 use Rattle.trace_lane.proofs.OwnLemmas.{blocks-none, empty-holds}

@@ -1,35 +1,18 @@
 -- The outcomes of a lane so far fit the events that are seen.
 use Rattle.std.proofs.Common.{ℕ, true, ◌≡◌, ◌<◌, ◌≤◌, ◌∷◌, ◌++◌, List, [], Option, Some, None, length, take, refl, sym, ap, ◌∙◌, subst, arith, append_assoc, append-nil}
-use Rattle.std.proofs.lemmas.Bool.{true≢false}
-use Rattle.std.specs.List.{slice_index_or}
+use Rattle.trace_lane.proofs.Common.{Geometry, Event, Call, ErrandFields, Reply, LeadsBy, Made, Op, Caller, IsAtRest, IsCall, MadeBy, OwnsFor, HeldBlock, Outcome, Setting}
+use Rattle.trace_lane.proofs.Common.{OperationStage, AllMadeFor, IsLane, StandsBy, Walks, Position, at_once, by_steps, new_caller, true≢false, slice_index_or, own}
+use Rattle.trace_lane.proofs.Common.{own-append, setting_in, leads-split, position_after}
 use Rattle.std.proofs.lemmas.List.{take_all}
-use Rattle.heap_geometry.specs.declared.geometry.Geometry.{Geometry}
-use Rattle.pool_model.specs.declared.event.Event.{Event}
-use Rattle.pool_model.specs.Histories.{own}
-use Rattle.pool_model.proofs.HistoryLemmas.{own-append}
-use Rattle.errand_steps.specs.Calls.{Call}
-use Rattle.errand_steps.specs.Errands.{ErrandFields}
-use Rattle.errand_steps.specs.declared.reply.Reply.{Reply}
-use Rattle.sound_laws.specs.events.Made.{LeadsBy, Made}
-use Rattle.trace_text.specs.declared.trace.Op.{Op}
-use Rattle.lane_engine.specs.Callers.{Caller, IsAtRest, IsCall, MadeBy, OwnsFor, at_once, by_steps, new_caller}
-use Rattle.lane_outcomes.specs.declared.registers.HeldBlock.{HeldBlock}
-use Rattle.lane_outcomes.specs.declared.outcome.Outcome.{Outcome}
 use Rattle.lane_outcomes.specs.declared.outcome.Outcome.TheVariants as outcome
-use Rattle.lane_outcomes.specs.Fits.{Fits, Walks}
-use Rattle.lane_outcomes.specs.Lane.{Position, position_after, start}
-use Rattle.lane_outcomes.specs.Rows.{Setting}
-use Rattle.lane_outcomes.specs.Standing.{setting_in}
+use Rattle.lane_outcomes.specs.Fits.{Fits}
+use Rattle.lane_outcomes.specs.Lane.{start}
 use Rattle.lane_outcomes.proofs.FitLemmas.{walks-later}
 use Rattle.lane_outcomes.proofs.SpentLemmas.{told-spent}
-use Rattle.trace_lane.specs.declared.stage.OperationStage.{OperationStage}
 use Rattle.trace_lane.specs.declared.stage.OperationStage.TheVariants as stage
-use Rattle.trace_lane.specs.Doing.{AllMadeFor}
-use Rattle.trace_lane.specs.Lanes.{IsLane, StandsBy}
 use Rattle.trace_lane.proofs.AnswerLemmas.{HasMovedOn}
 use Rattle.trace_lane.proofs.CallerLemmas.{Owns, ends-called, in-begun, in-way, leads-first, leads-rest, moved-none, moved-then}
 use Rattle.trace_lane.proofs.EndedLemmas.{lane-resting}
-use Rattle.lane_engine.proofs.LeadsLemmas.{leads-split}
 use Rattle.trace_lane.proofs.MakingLemmas.{empty}
 use Rattle.trace_lane.proofs.OwnLemmas.{empty-holds}
 use Rattle.trace_lane.proofs.RowLemmas.{IsBetween, setting_at}

@@ -1,32 +1,18 @@
 -- The blocks that registers hold stay their caller's, through whole calls of whoever makes them.
 use Rattle.std.proofs.Common.{ℕ, zero, suc, ◌≡◌, ◌≢◌, ◌∷◌, ◌++◌, List, [], Option, Some, None, inl, inr, refl, sym, ap, ◌∙◌, subst, vec_capacity}
-use Rattle.std.specs.Prelude.{◌⊎◌, slice_set}
-use Rattle.std.specs.List.{range_with_len, slice_index_or}
-use Rattle.std.specs.Option.{option_map}
-use Rattle.std.proofs.lemmas.Bool.{cases_eq}
-use Rattle.std.proofs.lemmas.List.{get_or-set_other, length-set, set-set}
-use Rattle.heap_geometry.specs.declared.need.Need.{Need}
+use Rattle.trace_lane.proofs.Common.{Need, Reply, Call, LeadsBy, Made, Op, HeldBlock, Outcome, LaneState, Maker, KeepBlocks, Deed, Makes, AllMade, HoldsBlocks, MadeFor}
+use Rattle.trace_lane.proofs.Common.{alloc, free, put, answered, slice_index_or, option_map, leads-split, held_in, registers_after, held_blocks, held_by, slice_set}
+use Rattle.trace_lane.proofs.Common.{cases_eq, length-set, set-set, deed_of, register_of, registers_from}
+use Rattle.std.specs.Prelude.{◌⊎◌}
+use Rattle.std.proofs.lemmas.List.{get_or-set_other}
 use Rattle.heap_geometry.specs.Need.{need_of}
-use Rattle.errand_steps.specs.declared.reply.Reply.{Reply}
 use Rattle.errand_steps.specs.declared.reply.Reply.TheVariants as reply
-use Rattle.errand_steps.specs.Calls.{Call, alloc, free, put, take}
-use Rattle.sound_laws.specs.events.Made.{LeadsBy, Made, answered, copied, wrote}
-use Rattle.step_machine.specs.Keeping.{LeavesPlace}
-use Rattle.trace_text.specs.declared.trace.Op.{Op}
-use Rattle.trace_text.specs.declared.trace.Op.TheVariants as op
-use Rattle.lane_engine.specs.Whole.{KeepBlocks, Maker}
-use Rattle.lane_engine.proofs.LeadsLemmas.{leads-split}
-use Rattle.lane_outcomes.specs.Deeds.{register_of}
-use Rattle.lane_outcomes.specs.declared.registers.HeldBlock.{HeldBlock}
-use Rattle.lane_outcomes.specs.declared.outcome.Outcome.{Outcome}
-use Rattle.lane_outcomes.specs.declared.outcome.Outcome.TheVariants as outcome
-use Rattle.lane_outcomes.specs.Lane.{held_in, registers_after}
-use Rattle.trace_lane.specs.declared.lane.LaneState.{LaneState}
+use Rattle.lane_outcomes.specs.Deeds.{registers_by}
+use Rattle.lane_outcomes.specs.Deeds as deed
 use Rattle.trace_lane.specs.declared.stage.OperationStage.TheVariants as stage
-use Rattle.trace_lane.specs.Made.{AllMade, AreMisses, HoldsBlocks, MadeFor, Makes, MayMake}
-use Rattle.trace_lane.specs.Paths.{held_blocks, held_by}
-use Rattle.trace_lane.specs.Scripts.{registers_from}
-use Rattle.trace_lane.proofs.EachCall.{AllCalls, Leaves, all-copied, all-found, all-misses, all-takes, all-wrote, leaves}
+use Rattle.trace_lane.specs.Made.{MayMake}
+use Rattle.trace_lane.proofs.DoingLemmas.{GivesAway, HandlesBy, HandsOut, made-handles}
+use Rattle.trace_lane.proofs.EachCall.{AllCalls, IsLight, Leaves, all-light, leaves}
 use Rattle.trace_lane.proofs.PartLemmas.{blocks-size, slot-full, slot-held}
 
 abbrev pub held_place : HeldBlock → ℕ
@@ -107,11 +93,6 @@ module _ (owns after : ℕ → Need → Type 0) (registers : List (Option HeldBl
         ];
   }
 
--- a skipped operation leaves the registers
-skip-leaves : (registers : List (Option HeldBlock)) (operation : Op) → registers ≡ registers_after registers operation outcome.Skipped
-skip-leaves registers (op.Alloc r need v) = refl
-skip-leaves registers operation = refl
-
 module _ {S : Type 0} {called : S → Call → Reply → S → Type 0} {owns : S → ℕ → Need → Type 0} (laws : KeepBlocks called owns) where
   -- the caller keeps its block through calls
   pub leads-keep :
@@ -124,61 +105,41 @@ module _ {S : Type 0} {called : S → Call → Reply → S → Type 0} {owns : S
     still : (made : List Made) → LeadsBy called c made d → ((place : ℕ) → AllCalls (Leaves place) made) → HoldsAll owns d registers
     still made leads leave = holds-still (owns c) (owns d) registers holds (λ place need. leads-keep c d made place need leads (leave place))
 
-    emptied :
-        (r : ℕ) (held : HeldBlock) (call : Call) (answer : Reply) → held_in registers r ≡ Some held → LeadsBy called c (answered call answer ∷ []) d
-        → ((place : ℕ) → place ≢ held.place → LeavesPlace call place) → HoldsAll owns d (slice_set registers r None)
-    emptied r held call answer full leads leave =
-        holds-emptied (owns c) (owns d) registers holds r held full
-        (λ place need differ. leads-keep c d (answered call answer ∷ []) place need leads (leave place differ, tt))
+    emptied : (r : ℕ) (slot : Option HeldBlock) (made : List Made) → held_in registers r ≡ slot → GivesAway slot made → LeadsBy called c made d
+        → HoldsAll owns d (slice_set registers r None)
+    emptied r slot made is (held, full, call, answer, calls, leave) leads =
+        holds-emptied (owns c) (owns d) registers holds r held (is ∙ full)
+        (λ place need differ. leads-keep c d (answered call answer ∷ []) place need (subst (λ ms. LeadsBy called c ms d) calls leads) (leave place differ, tt))
 
-    given :
-        (r need v : ℕ) (held : HeldBlock) → held.need ≡ need_of need
-        → LeadsBy called c (answered (alloc need) (reply.Given held.place held.need) ∷ wrote held.place held.need v held.words) d
+    handed :
+        (r : ℕ) (held : HeldBlock) (made : List Made) → HandsOut held.place held.need made → LeadsBy called c made d
         → HoldsAll owns d (slice_set registers r (Some held))
-    given r need v held serves (t, one, leads) =
-        let answer : Reply = reply.Given held.place held.need in
-        let fills = wrote held.place held.need v held.words in
-        let later = λ (place : ℕ) (n : Need). leads-keep t d fills place n leads (all-wrote (leaves place) held.place held.need v held.words) in
-        holds-filled (owns c) (owns d) registers holds r held
-        (λ place n owned. later place n (laws.keeps c t (alloc need) answer place n one tt owned))
-        (later held.place held.need (laws.hands c t (alloc need) answer held.place held.need one (refl, refl)))
-        (λ q other differ there.
-        laws.apart c t (alloc need) answer held.place other.place held.need other.need one (refl, refl) (holds.owned q other there))
-
-    took :
-        (r shelf : ℕ) (held : HeldBlock) (misses : List Made) → AreMisses shelf misses
-        → LeadsBy called c (misses ++ answered (take shelf) (reply.Got held.place held.need) ∷ []) d
-        → HoldsAll owns d (slice_set registers r (Some held))
-    took r shelf held misses are leads =
-        let answer : Reply = reply.Got held.place held.need in
-        let parts = leads-split called c d misses (answered (take shelf) answer ∷ []) leads in
+    handed r held made (first, call, answer, rest, calls, hands, leave, light_first, light_rest) leads =
+        let parts = leads-split called c d first (answered call answer ∷ rest) (subst (λ ms. LeadsBy called c ms d) calls leads) in
         let t = parts.0 in
-        let one : called t (take shelf) answer d = subst (λ x. called t (take shelf) answer x) (sym parts.2.2) parts.2.1 in
+        let (u, one, more) = parts.2 in
+        let before = λ (place : ℕ) (n : Need). leads-keep c t first place n parts.1 (all-light (leaves place) first light_first) in
+        let later = λ (place : ℕ) (n : Need). leads-keep u d rest place n more (all-light (leaves place) rest light_rest) in
         holds-filled (owns c) (owns d) registers holds r held
-        (λ place n owned. leads-keep c d (misses ++ answered (take shelf) answer ∷ []) place n leads (all-takes (leaves place) shelf misses answer are) owned)
-        (laws.hands t d (take shelf) answer held.place held.need one (refl, refl))
+        (λ place n owned. later place n (laws.keeps t u call answer place n one (leave place) (before place n owned)))
+        (later held.place held.need (laws.hands t u call answer held.place held.need one hands))
         (λ q other differ there.
-        laws.apart t d (take shelf) answer held.place other.place held.need other.need one (refl, refl)
-        (leads-keep c t misses other.place other.need parts.1 (all-misses (leaves other.place) shelf misses are) (holds.owned q other there)))
+        laws.apart t u call answer held.place other.place held.need other.need one hands (before other.place other.need (holds.owned q other there)))
 
     resized :
-        (r need : ℕ) (old new : HeldBlock) (found : List ℕ) → held_in registers r ≡ Some old → new.need ≡ need_of need
-        → LeadsBy called c
-        (answered (alloc need) (reply.Given new.place new.need)
-        ∷ copied old.place old.need new.place new.need found new.words ++ answered (free old.place old.need) reply.Freed ∷ []) d
+        (r need : ℕ) (old new : HeldBlock) (copies : List Made) → held_in registers r ≡ Some old → AllCalls IsLight copies
+        → LeadsBy called c (answered (alloc need) (reply.Given new.place new.need) ∷ copies ++ answered (free old.place old.need) reply.Freed ∷ []) d
         → HoldsAll owns d (slice_set registers r (Some new))
-    resized r need old new found full serves (t, one, leads) =
+    resized r need old new copies full light_copies (t, one, leads) =
         let answer : Reply = reply.Given new.place new.need in
         let release = free old.place old.need in
-        let copies = copied old.place old.need new.place new.need found new.words in
         let parts = leads-split called t d copies (answered release reply.Freed ∷ []) leads in
         let u = parts.0 in
         let freed : called u release reply.Freed d = subst (λ x. called u release reply.Freed x) (sym parts.2.2) parts.2.1 in
         let apart = λ (other : ℕ) (had : Need). laws.apart c t (alloc need) answer new.place other new.need had one (refl, refl) in
         let later = λ (place : ℕ) (n : Need) (differ : place ≢ old.place) (owned : owns t place n).
         laws.keeps u d release reply.Freed place n freed differ
-        (leads-keep t u copies place n parts.1
-        (all-copied (leaves place) old.place old.need new.place new.need found (range_with_len 0 new.words)) owned) in
+        (leads-keep t u copies place n parts.1 (all-light (leaves place) copies light_copies) owned) in
         let differ : new.place ≢ old.place = λ e. apart old.place old.need (holds.owned r old full) (sym e) in
         let gone = holds-emptied (owns c) (owns d) registers holds r old full
         (λ place n not owned. later place n not (laws.keeps c t (alloc need) answer place n one tt owned)) in
@@ -188,55 +149,38 @@ module _ {S : Type 0} {called : S → Call → Reply → S → Type 0} {owns : S
         (later new.place new.need differ (laws.hands c t (alloc need) answer new.place new.need one (refl, refl)))
         (λ q other not there. apart other.place other.need (gone_here.owned q other there)))
 
+    -- what a deed makes of the registers' blocks
+    deed-holds : (r : ℕ) (done : Deed) (slot : Option HeldBlock) (made : List Made) → held_in registers r ≡ slot → HandlesBy slot done made
+        → LeadsBy called c made d → HoldsAll owns d (registers_by registers r done)
+    deed-holds r (deed.gives need v words place) slot made is handles leads =
+        handed r (record { place = place; words = words; need = need_of need }) made handles leads
+    deed-holds r (deed.takes words place need) slot made is handles leads =
+        handed r (record { place = place; words = words; need = need }) made handles leads
+    deed-holds r (deed.replaces need words place) slot made is (held, full, copies, light_copies, calls) leads =
+        resized r need held (record { place = place; words = words; need = need_of need }) copies (is ∙ full) light_copies
+        (subst (λ ms. LeadsBy called c ms d) calls leads)
+    deed-holds r deed.frees slot made is handles leads = emptied r slot made is handles leads
+    deed-holds r deed.lays slot made is handles leads = emptied r slot made is handles leads
+    deed-holds r (deed.refuses need) slot made is calls leads = still made leads (λ at. subst (AllCalls (Leaves at)) (sym calls) (tt, tt))
+    deed-holds r (deed.spends need) slot made is calls leads = still made leads (λ at. subst (AllCalls (Leaves at)) (sym calls) (tt, tt))
+    deed-holds r deed.stays slot made is handles leads =
+        elim handles [
+          | inl stays ↦ still made leads (λ at. all-light (leaves at) made stays)
+          | inr back ↦
+              let (place, need, shelf, found, calls) = back in
+              let one = subst (λ ms. LeadsBy called c ms d) calls leads in
+              let came : called c (put place need shelf) (reply.Full found) d =
+              subst (λ x. called c (put place need shelf) (reply.Full found) x) (sym one.2) one.1 in
+              holds-still (owns c) (owns d) registers holds (λ at had. laws.back c d place need shelf found at had came)
+        ]
+
   -- an operation that was made leaves blocks of the caller's in the registers
   pub op-holds :
       (c d : S) (registers : List (Option HeldBlock)) (operation : Op) (result : Outcome) (slot : Option HeldBlock) (made : List Made) → HoldsAll owns c registers
       → held_in registers (register_of operation) ≡ slot → MadeFor slot operation result made → LeadsBy called c made d
       → HoldsAll owns d (registers_after registers operation result)
-  op-holds c d registers operation outcome.Skipped slot made holds is (skip, none) leads =
-      subst (HoldsAll owns d) (skip-leaves registers operation)
-      (still c d registers holds made leads (λ place. subst (AllCalls (Leaves place)) (sym none) tt))
-  op-holds c d registers (op.Alloc r need v) (outcome.Given words place) None made holds is (words_are, calls) leads =
-      given c d registers holds r need v (record { place = place; words = words; need = need_of need }) refl
-      (subst (λ ms. LeadsBy called c ms d) calls leads)
-  op-holds c d registers (op.Alloc r need v) outcome.Refused None made holds is calls leads =
-      still c d registers holds made leads (λ place. subst (AllCalls (Leaves place)) (sym calls) (tt, tt))
-  op-holds c d registers (op.Alloc r need v) outcome.Spent None made holds is calls leads =
-      still c d registers holds made leads (λ place. subst (AllCalls (Leaves place)) (sym calls) (tt, tt))
-  op-holds c d registers (op.Free r) outcome.Freed (Some held) made holds is (words, calls) leads =
-      emptied c d registers holds r held (free held.place held.need) reply.Freed is (subst (λ ms. LeadsBy called c ms d) calls leads)
-      (λ place differ. differ)
-  op-holds c d registers (op.Fill r v) outcome.Filled (Some held) made holds is (words, calls) leads =
-      still c d registers holds made leads
-      (λ place. subst (AllCalls (Leaves place)) (sym calls) (all-wrote (leaves place) held.place held.need v held.words))
-  op-holds c d registers (op.Check r) (outcome.Sum total) (Some held) made holds is (words_are, (words, all, total_is, calls)) leads =
-      still c d registers holds made leads
-      (λ place. subst (AllCalls (Leaves place)) (sym calls) (all-found (leaves place) held.place held.need 0 words))
-  op-holds c d registers (op.Put r shelf) outcome.Put (Some held) made holds is (words, calls) leads =
-      emptied c d registers holds r held (put held.place held.need shelf) reply.Put is (subst (λ ms. LeadsBy called c ms d) calls leads)
-      (λ place differ. differ)
-  op-holds c d registers (op.Put r shelf) outcome.ShelfFull (Some held) made holds is (words, (found, calls)) leads =
-      let one = subst (λ ms. LeadsBy called c ms d) calls leads in
-      let call = put held.place held.need shelf in
-      let back : called c call (reply.Full found) d = subst (λ x. called c call (reply.Full found) x) (sym one.2) one.1 in
-      holds-still (owns c) (owns d) registers holds (λ place need. laws.back c d held.place held.need shelf found place need back)
-  op-holds c d registers (op.Take r shelf) (outcome.Took words place need) None made holds is (misses, are, words_are, calls) leads =
-      took c d registers holds r shelf (record { place = place; words = words; need = need }) misses are (subst (λ ms. LeadsBy called c ms d) calls leads)
-  op-holds c d registers (op.Take r shelf) outcome.ShelfEmpty None made holds is (misses, are, calls) leads =
-      still c d registers holds made leads
-      (λ place. subst (AllCalls (Leaves place)) (sym calls) (all-takes (leaves place) shelf misses reply.Empty are))
-  op-holds c d registers (op.Resize r need) (outcome.Kept words place) (Some held) made holds is (serves, words_are, place_is, calls) leads =
-      still c d registers holds made leads (λ at. subst (AllCalls (Leaves at)) (sym calls) tt)
-  op-holds c d registers (op.Resize r need) (outcome.Resized words place) (Some held) made holds is (differ, words_are, has, found, all, calls) leads =
-      resized c d registers holds r need held (record { place = place; words = words; need = need_of need }) found is refl
-      (subst (λ ms. LeadsBy called c ms d) calls leads)
-  op-holds c d registers (op.Resize r need) outcome.Refused (Some held) made holds is (differ, calls) leads =
-      still c d registers holds made leads (λ place. subst (AllCalls (Leaves place)) (sym calls) (tt, tt))
-  op-holds c d registers (op.Resize r need) outcome.Spent (Some held) made holds is (differ, calls) leads =
-      still c d registers holds made leads (λ place. subst (AllCalls (Leaves place)) (sym calls) (tt, tt))
-  op-holds c d registers (op.Alloc r need v) result None made holds is calls leads = absurd calls
-  op-holds c d registers operation result None made holds is calls leads = absurd calls
-  op-holds c d registers operation result (Some held) made holds is calls leads = absurd calls
+  op-holds c d registers operation result slot made holds is for =
+      deed-holds c d registers holds (register_of operation) (deed_of operation result) slot made is (made-handles operation result slot made for)
 
   -- so do operations
   pub all-hold :

@@ -1,32 +1,14 @@
 -- An advance of a lane, part after part.
-use Rattle.std.proofs.Common.{ℕ, suc, true, false, ◌≡◌, ◌≢◌, ◌<◌, ◌+◌, ◌-◌, ◌^◌, ◌∷◌, List, [], Option, Some, None, length, min, drop, refl, sym, ap}
-use Rattle.std.proofs.Common.{◌∙◌, subst, arith, get_or, drop-cons, below_more}
-use Rattle.heap_geometry.specs.declared.geometry.Geometry.{Geometry}
-use Rattle.errand_steps.specs.declared.told.Stepped.{Stepped}
-use Rattle.errand_steps.specs.Begins.{IsBusy}
-use Rattle.errand_steps.specs.Calls.{Call}
-use Rattle.errand_steps.specs.Errands.{ErrandFields}
-use Rattle.sound_laws.specs.events.Made.{Made}
-use Rattle.sound_state.specs.Runs.{steps}
-use Rattle.step_machine.specs.Cores.{CoreFields, IsCore, errand_at}
-use Rattle.step_machine.specs.Moments.{HasSeenMore, IsServed}
-use Rattle.trace_text.specs.declared.trace.Op.{Op}
-use Rattle.lane_engine.specs.Callers.{Caller}
-use Rattle.lane_engine.specs.Engines.{machine_at}
-use Rattle.lane_engine.specs.declared.grip.Grip.{Grip}
-use Rattle.lane_engine.specs.Machines.{MovesCore, grip_need, grip_place}
-use Rattle.lane_engine.specs.Told.{HasStepped}
-use Rattle.step_machine.proofs.MomentLemmas.{core-served, same-seen}
-use Rattle.lane_outcomes.specs.declared.registers.HeldBlock.{HeldBlock}
-use Rattle.lane_outcomes.specs.declared.outcome.Outcome.{Outcome}
-use Rattle.trace_lane.specs.Advances.{AdvancesOn, BeginsOperation, GoesOnBy, HasAdvanced, IsAtHand, MayBeginOperation, MayGoOn}
-use Rattle.trace_lane.specs.declared.lane.LaneState.{LaneState}
-use Rattle.trace_lane.specs.declared.stage.OperationStage.{OperationStage}
+use Rattle.std.proofs.Common.{ℕ, suc, true, false, ◌≡◌, ◌≢◌, ◌<◌, ◌+◌, ◌-◌, ◌^◌, ◌∷◌, List, [], Option, Some, None, length, min, drop, refl, sym, ap, ◌∙◌, subst, arith, get_or, drop-cons, below_more}
+use Rattle.trace_lane.proofs.Common.{Geometry, IsBusy, Call, ErrandFields, Made, HasSeenMore, IsServed, Op, Caller, HasStepped, HeldBlock, Outcome, LaneState}
+use Rattle.trace_lane.proofs.Common.{OperationStage, StandsBy, Stepped, CoreFields, Grip, MovesCore, AdvancesOn, HasAdvanced, IsAtHand, DoingIn, FirstPassed, IsLaneOn}
+use Rattle.trace_lane.proofs.Common.{IsLaneOf, machine_at, steps, errand_at, same-seen, begun_count}
+use Rattle.step_machine.specs.Cores.{IsCore}
+use Rattle.lane_engine.specs.Machines.{grip_need, grip_place}
+use Rattle.step_machine.proofs.MomentLemmas.{core-served}
+use Rattle.trace_lane.specs.Advances.{BeginsOperation, GoesOnBy, MayBeginOperation, MayGoOn}
 use Rattle.trace_lane.specs.declared.stage.OperationStage.TheVariants as stage
-use Rattle.trace_lane.specs.Doing.{DoingIn}
-use Rattle.trace_lane.specs.Lanes.{StandsBy}
-use Rattle.trace_lane.specs.Paths.{FirstPassed, begun_count}
-use Rattle.trace_lane.specs.States.{IsLaneOf, IsLaneOn, StandsOn}
+use Rattle.trace_lane.specs.States.{StandsOn}
 use Rattle.trace_lane.proofs.AdvanceLemmas.{advance-none, advance-then, calls-kept, part-begins, part-steps}
 use Rattle.trace_lane.proofs.NeedLemmas.{here-below}
 
@@ -164,7 +146,7 @@ module _ {passed : ℕ → ℕ → Type 0} {operations : List Op} {s t : CoreFie
         advanced =
             advance-then s t u lane.caller operations lane mid after false so.advanced
             (subst (λ c. HasAdvanced t u c operations mid after false) k
-            (part-begins t u mid after _ goes [] (errand_at t.errands mid.caller) operations calls before
+            (part-begins t u mid after _ goes before.between [] (errand_at t.errands mid.caller) operations calls before
             (λ cs on. before-next t operations mid operation so.stands before.between before.next cs on)));
         gate = λ first.
             let here : begun_count mid.outcomes.items mid.stage ≡ length mid.outcomes.items =

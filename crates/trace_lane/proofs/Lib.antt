@@ -2,6 +2,7 @@ pub mod AddedLemmas
 pub mod AdvanceLemmas
 pub mod AnswerLemmas
 pub mod CallerLemmas
+pub mod Common
 pub mod DoingLemmas
 pub mod EachCall
 pub mod EndedLemmas

@@ -1,30 +1,16 @@
 -- Operations that were made, with one more.
 use Rattle.std.proofs.Common.{ℕ, ◌≡◌, ◌≢◌, ◌<◌, ◌+◌, ◌∷◌, ◌++◌, List, [], Option, Some, None, length, drop, refl, sym, ap, ◌∙◌, subst, append_assoc, append-nil}
-use Rattle.std.specs.Prelude.{min}
-use Rattle.std.specs.List.{slice_index_or}
-use Rattle.std.specs.Option.{option_map}
-use Rattle.std.proofs.lemmas.List.{drop-drop, get_or_default, length-append}
-use Rattle.heap_geometry.specs.declared.need.Need.{Need}
-use Rattle.heap_geometry.specs.Need.{need_of, usable_words}
-use Rattle.errand_steps.specs.declared.reply.Reply.{Reply}
+use Rattle.trace_lane.proofs.Common.{Need, Reply, Call, Op, HeldBlock, Outcome, LaneState, IsAtHand, AllMadeFor, LeadsBy, Made, Maker, KeepBlocks, HasRun, Makes, AllMade}
+use Rattle.trace_lane.proofs.Common.{AreMisses, MadeFor, min, alloc, free, take, slice_index_or, option_map, register_of, held_in, registers_after, held_by, held_blocks}
+use Rattle.trace_lane.proofs.Common.{get_or_default, length-append, usable_words, answered, copied, wrote, leads-of, leads-split, registers_from}
+use Rattle.std.proofs.lemmas.List.{drop-drop}
+use Rattle.heap_geometry.specs.Need.{need_of}
 use Rattle.errand_steps.specs.declared.reply.Reply.TheVariants as reply
-use Rattle.errand_steps.specs.Calls.{Call, alloc, free, take}
-use Rattle.trace_text.specs.declared.trace.Op.{Op}
 use Rattle.trace_text.specs.declared.trace.Op.TheVariants as op
-use Rattle.sound_laws.specs.events.Made.{Copies, LeadsBy, Made, answered, copied, wrote}
-use Rattle.lane_engine.specs.Whole.{KeepBlocks, Maker}
-use Rattle.lane_engine.proofs.LeadsLemmas.{leads-of, leads-split, leads-then}
-use Rattle.lane_outcomes.specs.Deeds.{register_of}
-use Rattle.lane_outcomes.specs.declared.registers.HeldBlock.{HeldBlock}
-use Rattle.lane_outcomes.specs.declared.outcome.Outcome.{Outcome}
+use Rattle.sound_laws.specs.events.Made.{Copies}
+use Rattle.lane_engine.proofs.LeadsLemmas.{leads-then}
 use Rattle.lane_outcomes.specs.declared.outcome.Outcome.TheVariants as outcome
-use Rattle.lane_outcomes.specs.Lane.{held_in, registers_after}
-use Rattle.trace_lane.specs.declared.lane.LaneState.{LaneState}
-use Rattle.trace_lane.specs.Advances.{IsAtHand}
-use Rattle.trace_lane.specs.Doing.{AllMadeFor}
-use Rattle.trace_lane.specs.Made.{AllMade, AreMisses, HasRun, IsUnasked, MadeFor, Makes, OneMade}
-use Rattle.trace_lane.specs.Paths.{held_by, held_blocks}
-use Rattle.trace_lane.specs.Scripts.{registers_from}
+use Rattle.trace_lane.specs.Made.{IsUnasked, OneMade}
 
 -- takes that missed, with one more
 pub misses-more :

@@ -1,24 +1,10 @@
 -- What a lane has made, with one call or one operation more.
-use Rattle.std.proofs.Common.{ℕ, ◌≡◌, ◌≢◌, ◌<◌, ◌∷◌, ◌++◌, List, [], Option, Some, None, length, drop, replicate, refl, sym, ap, ◌∙◌, subst}
-use Rattle.std.proofs.Common.{arith, append-nil}
-use Rattle.std.specs.Option.{option_map}
-use Rattle.std.proofs.lemmas.List.{length-append}
-use Rattle.heap_geometry.specs.declared.need.Need.{Need}
-use Rattle.errand_steps.specs.Calls.{Call}
-use Rattle.sound_laws.specs.events.Made.{Made}
-use Rattle.trace_text.specs.declared.limits.TheConstants.{REGISTERS}
-use Rattle.trace_text.specs.declared.trace.Op.{Op}
+use Rattle.std.proofs.Common.{ℕ, ◌≡◌, ◌≢◌, ◌<◌, ◌∷◌, ◌++◌, List, [], Option, Some, None, length, drop, replicate, refl, sym, ap, ◌∙◌, subst, arith, append-nil}
+use Rattle.trace_lane.proofs.Common.{Need, Call, Made, REGISTERS, Op, NextCall, HeldBlock, Outcome, LaneState, OperationStage, DoingOf, ComesTo, IsAtHand, DoingIn}
+use Rattle.trace_lane.proofs.Common.{AllMadeFor, IsMaking, call_at, registers_from, option_map, length-append, call_of, stage_begun}
 use Rattle.trace_text.specs.declared.trace.Op.TheVariants as op
-use Rattle.lane_engine.specs.declared.begins.NextCall.{NextCall}
-use Rattle.lane_engine.specs.Begins.{call_of}
-use Rattle.lane_outcomes.specs.declared.registers.HeldBlock.{HeldBlock}
-use Rattle.lane_outcomes.specs.declared.outcome.Outcome.{Outcome}
-use Rattle.trace_lane.specs.Advances.{ComesTo, IsAtHand, blocks_of}
-use Rattle.trace_lane.specs.declared.lane.LaneState.{LaneState}
-use Rattle.trace_lane.specs.declared.stage.OperationStage.{OperationStage}
+use Rattle.trace_lane.specs.Advances.{blocks_of}
 use Rattle.trace_lane.specs.declared.stage.OperationStage.TheVariants as stage
-use Rattle.trace_lane.specs.Doing.{AllMadeFor, DoingIn, DoingOf, IsMaking, call_at}
-use Rattle.trace_lane.specs.Scripts.{registers_from, stage_begun}
 use Rattle.trace_lane.proofs.MadeLemmas.{all-for-more, from-more}
 use Rattle.trace_lane.proofs.NeedLemmas.{here-below}
 

@@ -1,18 +1,10 @@
 -- How many words blocks have, and how much of its script a lane has left.
 use Rattle.std.proofs.Common.{ℕ, zero, suc, ◌≡◌, ◌<◌, ◌≤◌, ◌+◌, ◌^◌, ◌∷◌, ◌++◌, List, [], length, drop, arith}
-use Rattle.std.proofs.lemmas.List.{length-append}
+use Rattle.trace_lane.proofs.Common.{Geometry, Need, Small, Large, TooLarge, IsNeed, Op, Outcome, OperationStage, LARGE_MOST, SMALL_MOST, IsHeapBlock, usable_words}
+use Rattle.trace_lane.proofs.Common.{length-append, begun_bound, script_left, stage_begun}
 use Rattle.std.proofs.Math.Pow.{pow_mono}
-use Rattle.heap_geometry.specs.declared.geometry.Geometry.{Geometry}
-use Rattle.heap_geometry.specs.declared.need.Need.{Need}
-use Rattle.heap_geometry.specs.declared.need.Need.TheVariants.{Small, Large, TooLarge}
-use Rattle.heap_geometry.specs.Need.{IsNeed, usable_words}
-use Rattle.heap_geometry.specs.declared.limits.TheConstants.{CLASSES, LARGE_MOST, SMALL_MOST}
-use Rattle.errand_steps.specs.Begins.{IsHeapBlock}
-use Rattle.trace_text.specs.declared.trace.Op.{Op}
-use Rattle.lane_outcomes.specs.declared.outcome.Outcome.{Outcome}
-use Rattle.trace_lane.specs.declared.stage.OperationStage.{OperationStage}
+use Rattle.heap_geometry.specs.declared.limits.TheConstants.{CLASSES}
 use Rattle.trace_lane.specs.declared.stage.OperationStage.TheVariants as stage
-use Rattle.trace_lane.specs.Scripts.{begun_bound, script_left, stage_begun}
 
 drop-below : (n : ℕ) (operations : List Op) (operation : Op) (rest : List Op) → drop n operations ≡ operation ∷ rest → n < length operations
 drop-below zero [] operation rest next = absurd (let e : [] ≡ operation ∷ rest = next in cc)

@@ -1,11 +1,6 @@
 -- Registers that hold nothing.
 use Rattle.std.proofs.Common.{ℕ, zero, suc, ◌≡◌, ◌∷◌, Option, Some, None, replicate, refl, sym, ap, ◌∙◌}
-use Rattle.std.proofs.Math.ListN.{length-replicate}
-use Rattle.std.specs.List.{slice_index_or}
-use Rattle.heap_geometry.specs.declared.need.Need.{Need}
-use Rattle.trace_text.specs.declared.limits.TheConstants.{REGISTERS}
-use Rattle.trace_lane.specs.Made.{HoldsBlocks}
-use Rattle.trace_lane.specs.Paths.{held_blocks}
+use Rattle.trace_lane.proofs.Common.{Need, REGISTERS, HoldsBlocks, length-replicate, slice_index_or, held_blocks}
 use Rattle.trace_lane.proofs.HoldsLemmas.{held_need, held_place}
 
 none-at : {B : Type 0} (n r : ℕ) → slice_index_or (replicate {A = Option B} n None) r None ≡ None

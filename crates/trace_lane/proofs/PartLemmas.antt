@@ -1,28 +1,11 @@
 -- What registers hold, of blocks in hand; and what a part of the code makes of a lane, by its registers, its outcomes and its stage.
 use Rattle.std.proofs.Common.{ℕ, ◌≡◌, ◌≢◌, ◌<◌, ◌∷◌, ◌++◌, List, [], Option, Some, None, length, sym, ap, ◌∙◌, subst, inl, inr, vec_capacity, zero, suc, Bool, true, false, refl}
-use Rattle.std.specs.Prelude.{◌⊎◌, slice_set, ◌↔◌, IsSome, IsTrue}
-use Rattle.std.specs.Option.{option_map}
-use Rattle.std.specs.List.{slice_index_or}
-use Rattle.heap_geometry.specs.declared.need.Need.{Need}
-use Rattle.errand_steps.specs.declared.told.Ending.{Ending}
-use Rattle.errand_steps.specs.Calls.{Call, take}
-use Rattle.errand_steps.specs.Told.{ended_as}
-use Rattle.sound_laws.specs.events.Made.{Made, answered}
-use Rattle.trace_text.specs.declared.trace.Op.{Op}
-use Rattle.lane_engine.specs.declared.begins.NextCall.{NextCall}
-use Rattle.lane_engine.specs.Begins.{call_of}
-use Rattle.lane_outcomes.specs.Deeds.{register_of}
-use Rattle.lane_outcomes.specs.declared.registers.HeldBlock.{HeldBlock}
-use Rattle.lane_outcomes.specs.declared.outcome.Outcome.{Outcome}
-use Rattle.lane_outcomes.specs.Lane.{held_in, registers_after}
-use Rattle.trace_lane.specs.Advances.{AnswersCall, ComesTo, HasAnswered, HasBegun, Rises}
-use Rattle.trace_lane.specs.declared.lane.LaneState.{LaneState}
-use Rattle.trace_lane.specs.declared.stage.OperationStage.{OperationStage}
-use Rattle.trace_lane.specs.Doing.{DoingOf, call_at, held_there}
-use Rattle.trace_lane.specs.Made.{MadeFor}
-use Rattle.trace_lane.specs.Paths.{held_blocks, held_by}
-use Rattle.trace_lane.specs.Scripts.{stage_begun}
-use Rattle.std.proofs.lemmas.List.{length-map, set-get_or}
+use Rattle.trace_lane.proofs.Common.{Need, Ending, Call, Made, Op, NextCall, HeldBlock, Outcome, LaneState, OperationStage, DoingOf, MadeFor, HasAnswered, HasBegun}
+use Rattle.trace_lane.proofs.Common.{AnswersCall, ComesTo, take, answered, call_at, held_there, option_map, slice_index_or, ended_as, call_of, register_of, held_in}
+use Rattle.trace_lane.proofs.Common.{registers_after, held_blocks, held_by, stage_begun, slice_set, set-get_or}
+use Rattle.std.specs.Prelude.{◌⊎◌, ◌↔◌, IsSome, IsTrue}
+use Rattle.trace_lane.specs.Advances.{Rises}
+use Rattle.std.proofs.lemmas.List.{length-map}
 use Rattle.errand_steps.specs.declared.told.Ending.TheVariants as ending
 use Rattle.trace_lane.specs.declared.stage.OperationStage.TheVariants as stage
 

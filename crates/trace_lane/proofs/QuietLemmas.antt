@@ -1,17 +1,11 @@
 -- A caller's block is as it was behind events of which its own leave it alone.
 use Rattle.std.proofs.Common.{ℕ, zero, suc, true, false, eqb, ◌≡◌, ◌≢◌, ◌∷◌, ◌++◌, List, [], Some, refl, sym, ◌∙◌, subst, inl, inr, append-nil}
-use Rattle.std.proofs.lemmas.Bool.{cases_Bool, cases_eq, eq-eqb}
-use Rattle.heap_geometry.specs.declared.geometry.Geometry.{Geometry}
-use Rattle.heap_geometry.specs.declared.need.Need.{Need}
-use Rattle.heap_geometry.specs.declared.need.Need.TheVariants.{Small, Large, TooLarge}
-use Rattle.pool_model.specs.declared.event.Event.{Event}
-use Rattle.pool_model.specs.declared.event.Event.TheVariants.{Alloc, Looked, Refuse, Free, Write, Put, Take, TakeNone}
-use Rattle.pool_model.specs.declared.owner.Owner.TheVariants.{Caller, Shelf}
-use Rattle.pool_model.specs.Calls.{IsGiving, looks}
-use Rattle.pool_model.specs.Histories.{caller_of, own}
-use Rattle.pool_model.specs.Legal.{IsAllowed, IsLegalWithoutCounts}
-use Rattle.pool_model.specs.Pool.{Block, block_at, handed_to, fresh_block, pool_after, pool_of, written}
-use Rattle.pool_model.proofs.HistoryLemmas.{pool_of-push, push-append}
+use Rattle.trace_lane.proofs.Common.{Geometry, Need, Small, Large, TooLarge, Event, Alloc, Looked, Refuse, Free, Put, Write, Take, TakeNone, Shelf, IsGiving}
+use Rattle.trace_lane.proofs.Common.{IsLegalWithoutCounts, Block, cases_eq, cases_Bool, eq-eqb, looks, caller_of, own, handed_to, block_at, pool_of, pool_of-push}
+use Rattle.pool_model.specs.declared.owner.Owner.TheVariants.{Caller}
+use Rattle.pool_model.specs.Legal.{IsAllowed}
+use Rattle.pool_model.specs.Pool.{fresh_block, pool_after, written}
+use Rattle.pool_model.proofs.HistoryLemmas.{push-append}
 use Rattle.pool_model.proofs.OwnerLemmas.{free-elsewhere, others-keep, owner-one}
 use Rattle.pool_model.proofs.PoolLemmas.{block_at-past, block_at-without_other, block_at-changed_other}
 

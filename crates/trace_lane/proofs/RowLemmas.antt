@@ -1,48 +1,25 @@
 -- What one operation of a lane makes, by the whole calls that were made for it.
 use Rattle.std.proofs.Common.{ℕ, true, suc, ◌≡◌, ◌≢◌, ◌<◌, ◌≤◌, ◌+◌, ◌%◌, ◌^◌, ◌∷◌, ◌++◌, List, [], Option, Some, None, length, append-nil, refl, sym, ap, ◌∙◌, subst, inl, inr, arith, zero-add}
-use Rattle.std.specs.Prelude.{min}
-use Rattle.std.specs.List.{AllZip, slice_index_or}
-use Rattle.std.proofs.lemmas.Bool.{cases_lt}
-use Rattle.std.proofs.lemmas.List.{get_or_default, get_or_past}
+use Rattle.trace_lane.proofs.Common.{Geometry, Need, Event, IsLegal, Block, Reply, Call, IsServed, LeadsBy, Made, Op, HeldBlock, Outcome, Free, Put, Take, TakeNone, Ended}
+use Rattle.trace_lane.proofs.Common.{EventsOf, IsWellFormed, EndsCall, Caller, IsAtRest, IsCall, MadeBy, OwnsFor, Position, IsSpent, MayAsk, Moment, FitsRow, IsWord}
+use Rattle.trace_lane.proofs.Common.{Setting, MadeFor, min, block_at, pool_of, alloc, free, put, take, answered, copied, cases_lt, own, legal-weaker, alloc_answer, end_of}
+use Rattle.trace_lane.proofs.Common.{register_of, setting_in, leads-split, slice_index_or, get_or_default, get_or_past, usable_words, alloc_spent, every-found, sound-of}
+use Rattle.trace_lane.proofs.Common.{begun_at, at_once, by_steps, filling, writing, held_in}
+use Rattle.std.specs.List.{AllZip}
 use Rattle.std.proofs.Math.Nat.{min-le_left}
-use Rattle.heap_geometry.specs.declared.geometry.Geometry.{Geometry}
-use Rattle.heap_geometry.specs.declared.need.Need.{Need}
-use Rattle.heap_geometry.specs.Need.{need_of, usable_words}
-use Rattle.pool_model.specs.declared.event.Event.{Event}
-use Rattle.pool_model.specs.declared.event.Event.TheVariants.{Free, Put, Take, TakeNone}
+use Rattle.heap_geometry.specs.Need.{need_of}
 use Rattle.pool_model.specs.declared.owner.Owner.TheVariants.{Caller as CallerOf}
-use Rattle.pool_model.specs.Calls.{Ended, EventsOf, alloc_given, alloc_refused, alloc_spent}
+use Rattle.pool_model.specs.Calls.{alloc_given, alloc_refused}
 use Rattle.pool_model.specs.Calls as event_end
-use Rattle.pool_model.specs.Histories.{own}
-use Rattle.pool_model.specs.Legal.{IsLegal}
-use Rattle.pool_model.specs.Pool.{Block, block_at, pool_of}
-use Rattle.pool_model.specs.WellFormed.{IsWellFormed}
-use Rattle.pool_model.proofs.HistoryLemmas.{legal-weaker}
-use Rattle.pool_model.proofs.PoolLemmas.{every-found}
-use Rattle.pool_model.proofs.WellFormedLemmas.{sound-of}
 use Rattle.errand_steps.specs.declared.reply.Begun.TheVariants as begun
-use Rattle.errand_steps.specs.declared.reply.Reply.{Reply}
 use Rattle.errand_steps.specs.declared.reply.Reply.TheVariants as reply
-use Rattle.errand_steps.specs.Begins.{alloc_answer}
-use Rattle.errand_steps.specs.Calls.{Call, alloc, free, put, take}
-use Rattle.step_machine.specs.Moments.{IsServed}
-use Rattle.sound_laws.specs.events.Ends.{end_of}
-use Rattle.sound_laws.specs.events.Made.{LeadsBy, Made, answered, copied}
-use Rattle.trace_text.specs.declared.trace.Op.{Op}
 use Rattle.trace_text.specs.declared.trace.Op.TheVariants as op
-use Rattle.lane_engine.specs.Callers.{Caller, EndsCall, IsAtRest, IsCall, MadeBy, OwnsFor, at_once, begun_at, by_steps}
-use Rattle.lane_outcomes.specs.Deeds.{register_of}
-use Rattle.lane_outcomes.specs.declared.registers.HeldBlock.{HeldBlock}
-use Rattle.lane_outcomes.specs.declared.outcome.Outcome.{Outcome}
 use Rattle.lane_outcomes.specs.declared.outcome.Outcome.TheVariants as outcome
-use Rattle.lane_outcomes.specs.Lane.{Position, filling, held_in, writing}
-use Rattle.lane_outcomes.specs.Rows.{RowAt, CheckRow, FitsRow, IsCopy, IsSpent, IsWord, MayAsk, Moment, Setting}
-use Rattle.lane_outcomes.specs.Standing.{setting_in}
-use Rattle.trace_lane.specs.Made.{MadeFor, Skips}
+use Rattle.lane_outcomes.specs.Rows.{RowAt, CheckRow, IsCopy}
+use Rattle.trace_lane.specs.Made.{Skips}
 use Rattle.trace_lane.proofs.AddedLemmas.{HasAdded, HasKept, HasTakenOff, added-none, added-then, called-added, copy-walk, ended-as, full-added, got-added, kept-on, reads-kept, takes-added, value_of, whole-added, writes-added}
 use Rattle.trace_lane.proofs.AnswerLemmas.{alloc-not_begun, ends-spent_call}
 use Rattle.trace_lane.proofs.CallerLemmas.{Owns, alloc-started, caller-laws, ends-called, steps-busy, steps-called}
-use Rattle.lane_engine.proofs.LeadsLemmas.{leads-split}
 use Rattle.trace_lane.proofs.HoldsLemmas.{HoldsAll}
 use Rattle.trace_lane.proofs.QuietLemmas.{AllQuiet, quiet-giving}
 use Rattle.trace_lane.proofs.TurnLemmas.{answered_in, asked-unspent, is-spent, may-ask}

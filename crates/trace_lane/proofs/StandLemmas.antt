@@ -1,71 +1,35 @@
 -- A lane stands behind each part of an advance: where its operation begins, where its call goes on, and where that has ended.
 use Rattle.std.proofs.Common.{ℕ, true, false, suc, ◌≡◌, ◌<◌, ◌≤◌, ◌+◌, ◌∷◌, ◌++◌, List, [], Option, Some, None, length, refl, sym, ap, ◌∙◌, subst, inl, inr, arith, append_assoc, append-nil, vec_capacity}
-use Rattle.std.specs.Prelude.{◌⊎◌, ◌≢◌}
-use Rattle.std.specs.Option.{option_map}
-use Rattle.std.proofs.lemmas.List.{length-append, map-append}
-use Rattle.heap_geometry.specs.declared.geometry.Geometry.{Geometry}
-use Rattle.heap_geometry.specs.declared.need.Need.{Need}
-use Rattle.pool_model.specs.declared.event.Event.{Event}
-use Rattle.pool_model.specs.Histories.{own}
-use Rattle.pool_model.specs.Calls.{Ended, EventsOf}
+use Rattle.std.specs.Prelude.{◌⊎◌}
+use Rattle.trace_lane.proofs.Common.{Geometry, Need, Event, Ended, EventsOf, HasEnded, IsLegal, Progress, Reply, Ending, IsBusy, IsIdle, Call, ErrandFields, LeadsBy, Made}
+use Rattle.trace_lane.proofs.Common.{IsUnderWay, HasSeenMore, IsMoment, IsServed, REGISTERS, Op, NextCall, HasStepped, HeldBlock, Outcome, LaneState, AllMadeFor, IsMaking}
+use Rattle.trace_lane.proofs.Common.{DoingOf, AreMisses, IsLane, StandsBy, IsOp, Stepped, IsIn, Caller, FitsCall, IsAtRest, IsCall, OwnsFor, Engine, HasAnswered, HasBegun}
+use Rattle.trace_lane.proofs.Common.{HasGoneOn, IsAgain, IsShort, AnswersCall, ComesTo, IsAtHand, IsLaneOf, alloc_answer, alloc, free, write, read, put, take, begun_by}
+use Rattle.trace_lane.proofs.Common.{answered, call_at, calls_in, calls_made, registers_from, option_map, own, own-append, done-told, same-seen, begin_answer, call_of}
+use Rattle.trace_lane.proofs.Common.{begun_count, stage_begun, begun_bound, script_left, leads-split, map-append, length-append, ended_as, leads-more, stage_of, take-none}
+use Rattle.trace_lane.proofs.Common.{at_once, by_steps, new_caller, registers_at, owns-on}
 use Rattle.pool_model.specs.Calls as event_end
-use Rattle.pool_model.proofs.HistoryLemmas.{own-append}
-use Rattle.sound_laws.specs.events.Ends.{HasEnded}
-use Rattle.pool_model.specs.Legal.{IsLegal}
 use Rattle.errand_steps.specs.declared.reply.Begun.TheVariants as begun
-use Rattle.errand_steps.specs.declared.reply.Progress.{Progress}
 use Rattle.errand_steps.specs.declared.reply.Progress.TheVariants as progress
-use Rattle.errand_steps.specs.declared.reply.Reply.{Reply}
 use Rattle.errand_steps.specs.declared.reply.Reply.TheVariants as reply
-use Rattle.errand_steps.specs.declared.told.Ending.{Ending}
 use Rattle.errand_steps.specs.declared.told.Ending.TheVariants as ending
-use Rattle.errand_steps.specs.declared.told.Stepped.{Stepped}
 use Rattle.errand_steps.specs.declared.told.Stepped.TheVariants as stepped
-use Rattle.errand_steps.specs.Begins.{IsBusy, IsIdle, alloc_answer}
-use Rattle.errand_steps.specs.Calls.{Call, alloc, free, write, read, put, take, begun_by}
-use Rattle.errand_steps.specs.Errands.{ErrandFields}
-use Rattle.errand_steps.specs.Told.{ended_as, stepped_as}
-use Rattle.errand_steps.proofs.AnswerLemmas.{done-told}
-use Rattle.sound_laws.specs.events.Made.{LeadsBy, Made, answered}
-use Rattle.sound_laws.specs.events.UnderWay.{IsUnderWay}
-use Rattle.sound_laws.proofs.events_lemmas.MadeLemmas.{leads-more}
-use Rattle.sound_laws.specs.events.Stages.{stage_of}
-use Rattle.step_machine.proofs.SpareLemmas.{take-none}
-use Rattle.step_machine.specs.Moments.{HasSeenMore, IsMoment, IsServed}
-use Rattle.step_machine.proofs.MomentLemmas.{same-seen}
-use Rattle.trace_text.specs.declared.limits.TheConstants.{REGISTERS}
-use Rattle.trace_text.specs.declared.trace.Op.{Op}
+use Rattle.errand_steps.specs.Told.{stepped_as}
 use Rattle.trace_text.specs.declared.trace.Op.TheVariants as op
-use Rattle.trace_text.specs.Traces.{IsOp}
-use Rattle.lane_engine.specs.declared.begins.NextCall.{NextCall}
-use Rattle.lane_engine.specs.Begins.{begin_answer, call_of}
-use Rattle.lane_engine.specs.Callers.{Caller, FitsCall, IsAtRest, IsCall, IsIn, OwnsFor, at_once, by_steps, new_caller}
-use Rattle.lane_engine.specs.Engines.{Engine}
-use Rattle.lane_engine.specs.Told.{HasStepped}
-use Rattle.lane_outcomes.specs.declared.registers.HeldBlock.{HeldBlock}
-use Rattle.lane_outcomes.specs.declared.outcome.Outcome.{Outcome}
-use Rattle.trace_lane.specs.Advances.{AnswersCall, ComesTo, HasAnswered, HasBegun, HasGoneOn, IsAgain, IsAtHand, IsBefore, IsShort, IsTold, KeepsLane, MayAnswer}
-use Rattle.trace_lane.specs.declared.lane.LaneState.{LaneState}
+use Rattle.trace_lane.specs.Advances.{IsBefore, IsComing, IsTold, KeepsLane, MayAnswer}
 use Rattle.trace_lane.specs.declared.stage.OperationStage.TheVariants as stage
-use Rattle.trace_lane.specs.Doing.{AllMadeFor, DoingOf, IsMaking, call_at}
-use Rattle.trace_lane.specs.Lanes.{IsLane, StandsBy}
-use Rattle.trace_lane.specs.Made.{AreMisses, calls_in, calls_made}
-use Rattle.trace_lane.specs.Paths.{begun_count}
-use Rattle.trace_lane.specs.Scripts.{begun_bound, registers_from, script_left, stage_begun}
-use Rattle.trace_lane.specs.States.{IsLaneOf, registers_at}
 use Rattle.trace_lane.proofs.AdvanceLemmas.{Falls}
 use Rattle.trace_lane.proofs.AnswerLemmas.{MayCall, alloc-not_begun, call-begun, goes-on as call-goes_on, settled-of}
-use Rattle.step_machine.proofs.ApartLemmas.{owns-on}
 use Rattle.trace_lane.proofs.CallerLemmas.{IsWay, Owns, answers-so, caller-laws, ends-called, in-begun, in-way, moment-from}
-use Rattle.trace_lane.proofs.EndedLemmas.{IsResting, lane-resting}
-use Rattle.lane_engine.proofs.LeadsLemmas.{leads-split}
+use Rattle.trace_lane.proofs.EndedLemmas.{lane-resting}
 use Rattle.trace_lane.proofs.HoldsLemmas.{HoldsAll, all-hold}
 use Rattle.trace_lane.proofs.MadeLemmas.{all-made}
 use Rattle.trace_lane.proofs.PartLemmas.{blocks-size}
 use Rattle.trace_lane.proofs.MakingLemmas.{IsAtWork, comes-making, doing-begun, empty, making-work}
-use Rattle.trace_lane.proofs.NeedLemmas.{left-ends, left-rises, need-words}
+use Rattle.trace_lane.proofs.NeedLemmas.{here-below, left-ends, left-rises, need-words}
 use Rattle.trace_lane.proofs.OwnLemmas.{empty-holds}
-use Rattle.trace_lane.proofs.WorkLemmas.{HasNeed, IsWorking, doing-works}
+use Rattle.trace_lane.proofs.DoingLemmas.{HasNeed}
+use Rattle.trace_lane.proofs.WorkLemmas.{IsWorking, doing-works}
 
 -- what a caller owns it owns still, whatever others did
 pub owns-beside :
@@ -174,10 +138,10 @@ module _ {B : Type 0} (engine : Engine B) where
     -- less is left of the script, but where the operation stays where it is
     falls-so :
         (next : Option NextCall) → Comes operations operation old present next new → stage_begun old.stage < begun_bound
-        → (next ≢ None → (stage_begun old.stage < stage_begun new.stage) ⊎ ((new.stage ≡ old.stage) × again))
+        → ((call : NextCall) → next ≡ Some call → (stage_begun old.stage < stage_begun new.stage) ⊎ ((new.stage ≡ old.stage) × again))
         → Falls operations old new ⊎ ((new.outcomes.items ≡ old.outcomes.items) × (new.stage ≡ old.stage) × again)
     falls-so (Some call) (same, doing, is) few goes =
-        elim (goes (λ none. cc)) [
+        elim (goes call refl) [
           | inl rises ↦ inl
               (subst (λ os. script_left operations os new.stage < script_left operations old.outcomes.items old.stage) (sym same)
               (left-rises operations here.0 old.outcomes.items operation old.stage new.stage here.1 rises few))
@@ -189,25 +153,6 @@ module _ {B : Type 0} (engine : Engine B) where
         (subst (λ to. script_left operations (old.outcomes.items ++ result ∷ []) to < script_left operations old.outcomes.items old.stage) (sym between)
         (left-ends operations here.0 old.outcomes.items operation result old.stage here.1 few)))
 
-  -- a lane whose operation comes to its next call or to its outcome goes on, where its caller has made these calls and is in the next one
-  comes-on :
-      (operations : List Op) (operation : Op) (old new : LaneState B) (past present : List Made) (next : Option NextCall) (calls : List Call)
-      (f : ErrandFields) (sight : List Event) (begun : Option Call) (again : Option Call → Type 0) → IsAtHand operations old.outcomes.items operation
-      → AllMadeFor empty operations old.outcomes.items past → Comes operations operation old present next new
-      → length operations ≤ vec_capacity old.outcomes → length old.registers.items ≡ REGISTERS → KeepsLane engine.place_of engine.need_of old new
-      → StandsBy g old.caller (past ++ present) (option_map call_of next) (record { errand = f; seen = sight })
-      → HasSeenMore old.caller sight engine.events → calls ++ calls_in begun ≡ calls_made (past ++ present) ++ calls_in (option_map call_of next)
-      → stage_begun old.stage < begun_bound
-      → (next ≢ None → (stage_begun old.stage < stage_begun new.stage) ⊎ ((new.stage ≡ old.stage) × again begun))
-      → HasGoneOn (record engine { errand = f }) begun again operations calls old new
-  comes-on operations operation old new past present next calls f sight begun again here ended comes room size keeps stands more are few goes = record {
-    stands =
-        lane-stands operations old new (past ++ present) (option_map call_of next) (calls ++ calls_in begun) f sight room size keeps
-        (comes-making engine.place_of engine.need_of operations old.outcomes.items operation past present next new here ended comes) are stands more;
-    falls = falls-so operations operation old new present (again begun) here next comes few goes;
-    count = count-so operations operation old new present (again begun) here next comes;
-  }
-
   -- the registers hold blocks of the caller's between two operations
   holds-between :
       (operations : List Op) (results : List Outcome) (caller : ℕ) (made : List Made) (c : Caller)
@@ -217,145 +162,160 @@ module _ {B : Type 0} (engine : Engine B) where
       all-hold (caller-laws g) (new_caller caller g) c empty operations results (empty-holds (Owns (new_caller caller g)))
       (all-made (IsCall g) empty operations results made (new_caller caller g) c all leads)
 
-  module _ {operation : Op} {operations : List Op} {calls : List Call} {lane : LaneState B} (b : IsBefore engine operation operations calls lane) where
-    pub resting : IsResting g lane.caller engine.events engine.errand operations (blocks lane) lane.outcomes.items calls
-    resting = lane-resting b.stands.stands b.between
+  module _ {seen : List Event} {e : ErrandFields} {operation : Op} {next : Option NextCall} {operations : List Op} {calls : List Call} {old mid : LaneState B}
+      (k : IsComing engine seen e operation next operations calls old mid) where
+    abbrev now : Caller
+    now = record { errand = engine.errand; seen = k.sight }
 
-    abbrev pub now : Caller
-    now = record { errand = engine.errand; seen = resting.sight }
+    abbrev before : List (Option HeldBlock)
+    before = registers_from empty operations old.outcomes.items
 
-    holds-now : HoldsAll Owns now (registers_from empty operations lane.outcomes.items)
-    holds-now = holds-between operations lane.outcomes.items lane.caller resting.made now resting.leads resting.all
+    -- it has gone on, where its caller has made these calls and is in the next one
+    comes-on :
+        (to : Option NextCall) (new : LaneState B) (present : List Made) (begun : Option Call) (f : ErrandFields) → Comes operations operation old present to new
+        → KeepsLane engine.place_of engine.need_of old new
+        → StandsBy g old.caller (k.past ++ present) (option_map call_of to) (record { errand = f; seen = k.sight })
+        → calls ++ calls_in begun ≡ calls_made (k.past ++ present) ++ calls_in (option_map call_of to)
+        → ((call : NextCall) → to ≡ Some call
+        → (stage_begun old.stage < stage_begun new.stage) ⊎ ((new.stage ≡ old.stage) × IsAgain old.caller seen e engine.events begun))
+        → HasGoneOn (record engine { errand = f }) seen e begun operations calls old new
+    comes-on to new present begun f comes keeps stands are goes = record {
+      stands =
+          lane-stands operations old new (k.past ++ present) (option_map call_of to) (calls ++ calls_in begun) f k.sight k.room k.size keeps
+          (comes-making engine.place_of engine.need_of operations old.outcomes.items operation k.past present to new k.here k.ended comes) are stands k.others;
+      falls = falls-so operations operation old new present (IsAgain old.caller seen e engine.events begun) k.here to comes k.few goes;
+      count = count-so operations operation old new present (IsAgain old.caller seen e engine.events begun) k.here to comes;
+    }
 
-    number : engine.errand.caller ≡ lane.caller
-    number = b.served.own_errand.number
+    -- the operation has its outcome
+    pub coming-none : next ≡ None → HasGoneOn engine seen e None operations calls old mid
+    coming-none none =
+        comes-on None mid k.present None engine.errand (subst (λ n. Comes operations operation old k.present n mid) none k.comes) k.keeps (k.leads, k.rests)
+        (ap (λ cs. cs ++ []) k.begun) (λ call is. absurd (cc))
 
-    -- what the operation comes to, from the registers behind those before it
-    comes-so :
-        (next : Option NextCall) (new : LaneState B) → HasBegun engine.place_of engine.need_of operation lane next new
-        → Comes operations operation lane [] next new
-    comes-so next new h =
-        subst (λ rs. ComesTo engine.place_of engine.need_of operation rs lane.outcomes.items [] next new) resting.registers_are h.comes
+    module _ (call : NextCall) (is_next : next ≡ Some call) where
+      comes-some : Comes operations operation old k.present (Some call) mid
+      comes-some = subst (λ n. Comes operations operation old k.present n mid) is_next k.comes
 
-    -- a lane between two operations has begun nothing of the next one
-    few-begun : (n : ℕ) → 0 < n → stage_begun lane.stage < n
-    few-begun n some = subst (λ at. stage_begun at < n) (sym b.between) some
+      -- its next call may begin
+      pub record MayBeginNow : Type 0 where
+        pub idle : IsIdle engine.errand
+        pub sight_owned : OwnsFor k.sight engine.errand.caller (call_of call)
+        pub owned : OwnsFor engine.events old.caller (call_of call)
+        pub fits : FitsCall (call_of call)
 
-    -- the operation has its outcome at once
-    pub begins-none :
-        (again : Option Call → Type 0) (new : LaneState B) → HasBegun engine.place_of engine.need_of operation lane None new
-        → HasGoneOn engine None again operations calls lane new
-    begins-none again new h =
-        comes-on operations operation lane new resting.made [] None calls engine.errand resting.sight None again b.next resting.all (comes-so None new h) b.stands.room b.stands.size
-        h.keeps (subst (λ ms. StandsBy g lane.caller ms None now) (sym (append-nil resting.made)) (resting.leads, resting.rests)) resting.others
-        (ap (λ cs. cs ++ []) (resting.calls_are ∙ ap calls_made (sym (append-nil resting.made)))) (few-begun begun_bound (omega arith))
-        (λ some. absurd (some refl))
+      pub coming-may : IsOp operation → MayBeginNow
+      coming-may is_op =
+          let (same, doing, is) = comes-some in
+          let size = blocks-size engine.place_of engine.need_of mid.registers.items ∙ k.keeps.size ∙ k.size in
+          let parts = leads-split (IsCall g) (new_caller old.caller g) now k.past k.present k.leads in
+          let holds = holds-between operations old.outcomes.items old.caller k.past parts.0 parts.1 k.ended in
+          let works = doing-works g before (blocks mid) parts.0 now holds operation mid.stage k.present size is_op doing parts.2 k.rests.served.legal in
+          let owned_call = subst (λ c. OwnsFor k.sight engine.errand.caller c) (sym is) works.owned in
+          record {
+            idle = k.rests.idle;
+            sight_owned = owned_call;
+            owned =
+                owns-beside g old.caller k.sight engine.events (call_of call) k.others k.served.legal
+                (subst (λ n. OwnsFor k.sight n (call_of call)) k.served.own_errand.number owned_call);
+            fits = subst FitsCall (sym is) works.fits;
+          }
 
-    -- its first call may begin
-    pub record MayBeginNow (call : Call) : Type 0 where
-      pub idle : IsIdle engine.errand
-      pub sight_owned : OwnsFor resting.sight engine.errand.caller call
-      pub owned : OwnsFor engine.events lane.caller call
-      pub fits : FitsCall call
+      -- its next call has begun
+      pub coming-call :
+          MayBeginNow → begin_answer engine.errand (call_of call) ≡ begun.Started
+          → HasGoneOn (record engine { errand = begun_by engine.errand (call_of call) }) seen e (Some (call_of call)) operations calls old mid
+      coming-call may started =
+          let begun_so =
+          call-begun g engine.errand.caller engine.errand k.sight (call_of call) k.rests.served k.rests.idle
+          (may-begin engine.errand k.sight (call_of call) started may.sight_owned) in
+          comes-on (Some call) mid k.present (Some (call_of call)) (begun_by engine.errand (call_of call)) comes-some k.keeps
+          (now, k.leads, k.rests, may.sight_owned, record { steps = 0; on = refl; busy = begun_so.busy }) (ap (λ cs. cs ++ call_of call ∷ []) k.begun)
+          (λ other is. k.rises call is_next)
 
-    pub begins-may :
-        (call : NextCall) (new : LaneState B) → IsOp operation → HasBegun engine.place_of engine.need_of operation lane (Some call) new
-        → MayBeginNow (call_of call)
-    begins-may call new is_op h =
-        let before = registers_from empty operations lane.outcomes.items in
-        let (same, doing, is) = comes-so (Some call) new h in
-        let size = blocks-size engine.place_of engine.need_of new.registers.items ∙ h.keeps.size ∙ b.stands.size in
-        let works = doing-works g before (blocks new) now now holds-now operation new.stage [] size is_op doing refl resting.rests.served.legal in
-        let owned_call = subst (λ c. OwnsFor now.seen now.errand.caller c) (sym is) works.owned in
-        record {
-          idle = resting.rests.idle;
-          sight_owned = owned_call;
-          owned =
-              owns-beside g lane.caller resting.sight engine.events (call_of call) resting.others b.served.legal
-              (subst (λ k. OwnsFor resting.sight k (call_of call)) number owned_call);
-          fits = subst FitsCall (sym is) works.fits;
-        }
+      -- its allocation found no turn left: that may be answered, and has been
+      module _ (is_spent : begin_answer engine.errand (call_of call) ≡ begun.Spent) where
+        abbrev under : Call
+        under = call_at before (blocks mid) operation mid.stage
 
-    -- its first call has begun
-    pub begins-call :
-        (again : Option Call → Type 0) (call : NextCall) (new : LaneState B) → HasBegun engine.place_of engine.need_of operation lane (Some call) new
-        → MayBeginNow (call_of call) → begin_answer engine.errand (call_of call) ≡ begun.Started
-        → HasGoneOn (record engine { errand = begun_by engine.errand (call_of call) }) (Some (call_of call)) again operations calls lane new
-    begins-call again call new h may started =
-        let made_call = call_of call in
-        let comes = comes-so (Some call) new h in
-        let some = doing-begun (registers_from empty operations lane.outcomes.items) (blocks new) operation new.stage [] comes.1 in
-        let begun_so =
-        call-begun g engine.errand.caller engine.errand resting.sight made_call resting.rests.served resting.rests.idle
-        (may-begin engine.errand resting.sight made_call started may.sight_owned) in
-        comes-on operations operation lane new resting.made [] (Some call) calls (begun_by engine.errand made_call) resting.sight (Some made_call) again b.next resting.all comes
-        b.stands.room b.stands.size h.keeps
-        (subst (λ ms. StandsBy g lane.caller ms (Some made_call) (record { errand = begun_by engine.errand made_call; seen = resting.sight }))
-        (sym (append-nil resting.made)) (now, resting.leads, resting.rests, may.sight_owned, record { steps = 0; on = refl; busy = begun_so.busy })) resting.others
-        (ap (λ cs. cs ++ made_call ∷ []) (resting.calls_are ∙ ap calls_made (sym (append-nil resting.made)))) (few-begun begun_bound (omega arith))
-        (λ none. inl (few-begun (stage_begun new.stage) some))
+        spent-so : AnswersCall engine.place_of engine.need_of under ending.Spent × IsShort engine.place_of engine.need_of under
+        spent-so =
+            let (words, is_alloc, spent) = spent-alloc engine.errand (call_of call) is_spent in
+            subst (λ c. AnswersCall engine.place_of engine.need_of c ending.Spent × IsShort engine.place_of engine.need_of c)
+            (sym (sym comes-some.2 ∙ is_alloc)) (tt, tt)
 
-    -- its allocation found no turn left
-    pub begins-spent :
-        (again : Option Call → Type 0) (call : NextCall) (mid new : LaneState B) → HasBegun engine.place_of engine.need_of operation lane (Some call) mid
-        → MayBeginNow (call_of call) → begin_answer engine.errand (call_of call) ≡ begun.Spent → (next : Option NextCall)
-        → HasAnswered engine.place_of engine.need_of operation ending.Spent mid next new
-        → HasGoneOn (record engine { errand = begun_by engine.errand (call_of call) }) (Some (call_of call)) again operations calls lane new
-    begins-spent again call mid new h may is_spent next answers =
-        let before = registers_from empty operations lane.outcomes.items in
-        let (words, is_alloc, spent) = spent-alloc engine.errand (call_of call) is_spent in
-        let (same, doing, is) = comes-so (Some call) mid h in
-        let at_call = call_at before (blocks mid) operation mid.stage in
-        let at_alloc : at_call ≡ alloc words = sym is ∙ is_alloc in
-        let none : next ≡ None = answers.over refl in
-        let so : AnswersCall engine.place_of engine.need_of at_call ending.Spent =
-        subst (λ c. AnswersCall engine.place_of engine.need_of c ending.Spent) (sym at_alloc) tt in
-        let comes : Comes operations operation lane (answered at_call reply.Spent ∷ []) None new =
-        subst (λ os. ComesTo engine.place_of engine.need_of operation before os (answered at_call reply.Spent ∷ []) None new) same
-        (subst (λ n. ComesTo engine.place_of engine.need_of operation before mid.outcomes.items (answered at_call reply.Spent ∷ []) n new) none
-        (answers.comes before [] doing so)) in
-        let one : Made = answered (call_of call) reply.Spent in
-        let comes_call : Comes operations operation lane (one ∷ []) None new =
-        subst (λ c. ComesTo engine.place_of engine.need_of operation before lane.outcomes.items (answered c reply.Spent ∷ []) None new) (sym is) comes in
-        let keeps : KeepsLane engine.place_of engine.need_of lane new = record {
-          caller = answers.keeps.caller ∙ h.keeps.caller;
-          size = answers.keeps.size ∙ h.keeps.size;
-          room = answers.keeps.room ∙ h.keeps.room;
-        } in
-        let unchanged : begun_by engine.errand (call_of call) ≡ engine.errand =
-        ap (begun_by engine.errand) is_alloc ∙ (alloc-not_begun engine.errand words spent).same in
-        let call_made : IsCall g now (call_of call) reply.Spent now = record {
-          rested = resting.rests;
-          made = at_once words is_alloc refl spent refl;
-          owned = may.sight_owned;
-          rests = resting.rests;
-        } in
-        let leads = leads-more (IsCall g) (new_caller lane.caller g) now now resting.made (call_of call) reply.Spent resting.leads call_made in
-        subst (λ f. HasGoneOn (record engine { errand = f }) (Some (call_of call)) again operations calls lane new) (sym unchanged)
-        (comes-on operations operation lane new resting.made (one ∷ []) None calls engine.errand resting.sight (Some (call_of call)) again b.next resting.all comes_call b.stands.room
-        b.stands.size keeps (leads, resting.rests) resting.others
-        (ap (λ cs. cs ++ call_of call ∷ []) resting.calls_are
-        ∙ sym (append-nil (calls_made (resting.made ++ one ∷ [])) ∙ map-append (λ (m : Made). m.call) resting.made (one ∷ [])))
-        (few-begun begun_bound (omega arith)) (λ some. absurd (some refl)))
+        pub spent-may : MayAnswer engine.place_of engine.need_of operation ending.Spent mid
+        spent-may = record { before = before; made = k.present; doing = comes-some.1; answers = spent-so.0; short = spent-so.1 }
 
-    -- the answer of an allocation that found none may be told
-    pub spent-may :
-        (call : NextCall) (mid : LaneState B) → HasBegun engine.place_of engine.need_of operation lane (Some call) mid
-        → begin_answer engine.errand (call_of call) ≡ begun.Spent → MayAnswer engine.place_of engine.need_of operation ending.Spent mid
-    spent-may call mid h is_spent =
-        let before = registers_from empty operations lane.outcomes.items in
-        let (words, is_alloc, spent) = spent-alloc engine.errand (call_of call) is_spent in
-        let (same, doing, is) = comes-so (Some call) mid h in
-        record {
-          before = before;
-          made = [];
-          doing = doing;
-          answers =
-              subst (λ c. AnswersCall engine.place_of engine.need_of c ending.Spent) is
-              (subst (λ c. AnswersCall engine.place_of engine.need_of c ending.Spent) (sym is_alloc) tt);
-          short =
-              subst (λ c. IsShort engine.place_of engine.need_of c) is (subst (λ c. IsShort engine.place_of engine.need_of c) (sym is_alloc) tt);
-        }
+        pub coming-room : length mid.outcomes.items < vec_capacity mid.outcomes
+        coming-room =
+            let below = here-below operations k.here.0 old.outcomes.items operation k.here.1 in
+            let same = ap length comes-some.0 in
+            let most = k.room in
+            let room = k.keeps.room in
+            omega (arith, below, same, most, room)
+
+        pub coming-spent :
+            (new : LaneState B) (to : Option NextCall) → MayBeginNow → HasAnswered engine.place_of engine.need_of operation ending.Spent mid to new
+            → HasGoneOn (record engine { errand = begun_by engine.errand (call_of call) }) seen e (Some (call_of call)) operations calls old new
+        coming-spent new to may answers =
+            let (words, is_alloc, spent) = spent-alloc engine.errand (call_of call) is_spent in
+            let (same, doing, is) = comes-some in
+            let one : Made = answered (call_of call) reply.Spent in
+            let comes : Comes operations operation old (k.present ++ one ∷ []) None new =
+            subst (λ c. Comes operations operation old (k.present ++ answered c reply.Spent ∷ []) None new) (sym is)
+            (subst (λ os. ComesTo engine.place_of engine.need_of operation before os (k.present ++ answered under reply.Spent ∷ []) None new) same
+            (subst (λ n. ComesTo engine.place_of engine.need_of operation before mid.outcomes.items (k.present ++ answered under reply.Spent ∷ []) n new)
+            (answers.over refl) (answers.comes before k.present doing spent-so.0))) in
+            let keeps : KeepsLane engine.place_of engine.need_of old new = record {
+              caller = answers.keeps.caller ∙ k.keeps.caller;
+              size = answers.keeps.size ∙ k.keeps.size;
+              room = answers.keeps.room ∙ k.keeps.room;
+            } in
+            let unchanged : begun_by engine.errand (call_of call) ≡ engine.errand =
+            ap (begun_by engine.errand) is_alloc ∙ (alloc-not_begun engine.errand words spent).same in
+            let call_made : IsCall g now (call_of call) reply.Spent now =
+            record { rested = k.rests; made = at_once words is_alloc refl spent refl; owned = may.sight_owned; rests = k.rests } in
+            let leads = leads-more (IsCall g) (new_caller old.caller g) now now (k.past ++ k.present) (call_of call) reply.Spent k.leads call_made in
+            subst (λ f. HasGoneOn (record engine { errand = f }) seen e (Some (call_of call)) operations calls old new) (sym unchanged)
+            (comes-on None new (k.present ++ one ∷ []) (Some (call_of call)) engine.errand comes keeps
+            (subst (λ ms. LeadsBy (IsCall g) (new_caller old.caller g) ms now) (append_assoc k.past k.present (one ∷ [])) leads, k.rests)
+            (ap (λ cs. cs ++ call_of call ∷ []) k.begun ∙ sym (map-append (λ (m : Made). m.call) (k.past ++ k.present) (one ∷ []))
+            ∙ ap calls_made (append_assoc k.past k.present (one ∷ [])) ∙ sym (append-nil (calls_made (k.past ++ (k.present ++ one ∷ []))))) (λ other none. absurd (cc)))
+
+  -- an operation that begins comes to its first call, or to its outcome
+  pub begins-coming :
+      {operation : Op} {next : Option NextCall} {operations : List Op} {calls : List Call} {lane new : LaneState B} (seen : List Event) (e : ErrandFields)
+      → IsBefore engine operation operations calls lane → HasBegun engine.place_of engine.need_of operation lane next new
+      → IsComing engine seen e operation next operations calls lane new
+  begins-coming {operation = operation} {next = next} {operations = operations} {lane = lane} {new = new} seen e b h =
+      let resting = lane-resting b.stands.stands b.between in
+      let nothing = append-nil resting.made in
+      let comes : Comes operations operation lane [] next new =
+      subst (λ rs. ComesTo engine.place_of engine.need_of operation rs lane.outcomes.items [] next new) resting.registers_are h.comes in
+      record {
+        here = b.next;
+        past = resting.made;
+        present = [];
+        ended = resting.all;
+        comes = comes;
+        keeps = h.keeps;
+        sight = resting.sight;
+        leads =
+            subst (λ ms. LeadsBy (IsCall g) (new_caller lane.caller g) ms (record { errand = engine.errand; seen = resting.sight })) (sym nothing)
+            resting.leads;
+        rests = resting.rests;
+        others = resting.others;
+        served = b.served;
+        begun = resting.calls_are ∙ ap calls_made (sym nothing);
+        few = subst (λ at. stage_begun at < begun_bound) (sym b.between) (omega arith);
+        rises = λ call is.
+            let first = subst (λ n. Comes operations operation lane [] n new) is comes in
+            inl (subst (λ at. stage_begun at < stage_begun new.stage) (sym b.between)
+            (doing-begun (registers_from empty operations lane.outcomes.items) (blocks new) operation new.stage [] first.1));
+        size = b.stands.size;
+        room = b.stands.room;
+      }
 
   -- a step of the operation's call was made
   module _ {operation : Op} {told : Stepped B} {seen : List Event} {e : ErrandFields} {operations : List Op} {calls : List Call} {lane : LaneState B}
@@ -416,7 +376,7 @@ module _ {B : Type 0} (engine : Engine B) where
     -- the call goes on, and nothing changes
     pub told-stays :
         ((ended : Ending B) → told ≡ stepped.Done ended → ⊥)
-        → HasGoneOn engine None (IsAgain lane.caller seen e engine.events) operations calls lane lane
+        → HasGoneOn engine seen e None operations calls lane lane
     told-stays undone =
         let m = step-from (stepped_as engine.place_of engine.need_of told) t.stepped.moment in
         let goes =
@@ -510,52 +470,11 @@ module _ {B : Type 0} (engine : Engine B) where
           ap (λ ms. ms ++ answered calling.call answer ∷ []) work.all ∙ append_assoc work.past work.present (answered calling.call answer ∷ [])
           ∙ ap (λ c. work.past ++ (work.present ++ answered c answer ∷ [])) call-is
 
-      stands-by :
-          (under : Option Call) (f : ErrandFields)
-          → StandsBy g lane.caller (told-stands.made ++ answered calling.call answer ∷ []) under (record { errand = f; seen = engine.events })
-          → StandsBy g lane.caller (work.past ++ present-after) under (record { errand = f; seen = engine.events })
-      stands-by under f = subst (λ ms. StandsBy g lane.caller ms under (record { errand = f; seen = engine.events })) made-after
-
       comes :
           (is_op : IsOp operation) (next : Option NextCall) (new : LaneState B)
           → HasAnswered engine.place_of engine.need_of operation ended lane next new → Comes operations operation lane present-after next new
       comes is_op next new answers =
           answers.comes (registers_from empty operations lane.outcomes.items) work.present work.doing (answers-here is_op)
-
-      calls-after : (more : Option Call) → calls ++ calls_in more ≡ calls_made (work.past ++ present-after) ++ calls_in more
-      calls-after more =
-          ap (λ cs. cs ++ calls_in more)
-          (told-stands.begun ∙ ap (λ u. calls_made told-stands.made ++ calls_in u) calling.under
-          ∙ sym (map-append (λ (m : Made). m.call) told-stands.made (answered calling.call answer ∷ [])) ∙ ap calls_made made-after)
-
-      -- the operation has its outcome
-      pub told-ends :
-          (again : Option Call → Type 0) (new : LaneState B) → IsOp operation → HasAnswered engine.place_of engine.need_of operation ended lane None new
-          → HasGoneOn engine None again operations calls lane new
-      told-ends again new is_op answers =
-          comes-on operations operation lane new work.past present-after None calls engine.errand engine.events None again t.next work.ended (comes is_op None new answers)
-          t.stood.room t.stood.size answers.keeps (stands-by None engine.errand (leads-after, rests-after))
-          (same-seen lane.caller engine.events engine.events refl) (calls-after None) (works-here is_op).few (λ some. absurd (some refl))
-
-      -- its next call may begin
-      pub told-next :
-          (call : NextCall) (new : LaneState B) → IsOp operation → HasAnswered engine.place_of engine.need_of operation ended lane (Some call) new
-          → IsIdle engine.errand × OwnsFor engine.events lane.caller (call_of call) × FitsCall (call_of call)
-          × (begin_answer engine.errand (call_of call) ≡ begun.Started)
-      told-next call new is_op answers =
-          let before = registers_from empty operations lane.outcomes.items in
-          let (same, doing, is) = comes is_op (Some call) new answers in
-          let size = blocks-size engine.place_of engine.need_of new.registers.items ∙ answers.keeps.size ∙ t.stood.size in
-          let present = leads-more (IsCall g) past-leads.0 calling.last after-step work.present calling.call answer past-leads.2 call-ended in
-          let present_so = subst (λ c. LeadsBy (IsCall g) past-leads.0 (work.present ++ answered c answer ∷ []) after-step) call-is present in
-          let works = doing-works g before (blocks new) past-leads.0 after-step holds-past operation new.stage present-after size is_op doing present_so
-          t.still_served.legal in
-          let owned_call = subst (λ c. OwnsFor engine.events engine.errand.caller c) (sym is) works.owned in (
-            done-idle,
-            subst (λ k. OwnsFor engine.events k (call_of call)) t.still_served.own_errand.number owned_call,
-            subst FitsCall (sym is) works.fits,
-            ap (begin_answer engine.errand) is ∙ works.started engine.errand work.present (answered here answer) refl,
-          )
 
       -- a take that is tried again was missed, and has added no event
       again-missed :
@@ -594,24 +513,34 @@ module _ {B : Type 0} (engine : Engine B) where
             subst (λ k. IsUnderWay k (take shelf) e.point []) told-number (subst (λ xs. IsUnderWay e.caller (take shelf) e.point xs) none under),
           )
 
-      -- and has begun
-      pub told-goes :
-          (call : NextCall) (new : LaneState B) → IsOp operation → HasAnswered engine.place_of engine.need_of operation ended lane (Some call) new
-          → HasGoneOn (record engine { errand = begun_by engine.errand (call_of call) }) (Some (call_of call)) (IsAgain lane.caller seen e engine.events)
-          operations calls lane new
-      told-goes call new is_op answers =
-          let (idle, owned, fits, started) = told-next call new is_op answers in
-          let own_call = subst (λ k. OwnsFor engine.events k (call_of call)) (sym t.still_served.own_errand.number) owned in
-          let begins =
-          call-begun g lane.caller engine.errand engine.events (call_of call) t.still_served idle (may-begin engine.errand engine.events (call_of call) started own_call) in
-          comes-on operations operation lane new work.past present-after (Some call) calls (begun_by engine.errand (call_of call)) engine.events (Some (call_of call))
-          (IsAgain lane.caller seen e engine.events) t.next work.ended (comes is_op (Some call) new answers) t.stood.room t.stood.size answers.keeps
-          (stands-by (Some (call_of call)) (begun_by engine.errand (call_of call))
-          (after-step, leads-after, rests-after, own_call, record { steps = 0; on = refl; busy = begins.busy }))
-          (same-seen lane.caller engine.events engine.events refl) (calls-after (Some (call_of call))) (works-here is_op).few
-          (λ some. elim answers.rises [
-            | inl rises ↦ inl rises
-            | inr again ↦
-                let missed = again-missed call new is_op answers again.0 again.1 again.2 again.3 in
-                inr (again.3 ∙ sym again.2, inr (again.0, ap Some again.1, missed.0, missed.1))
-          ])
+      -- an operation whose call has ended comes to its next call, or to its outcome
+      pub told-coming :
+          (next : Option NextCall) (new : LaneState B) → IsOp operation → HasAnswered engine.place_of engine.need_of operation ended lane next new
+          → IsComing engine seen e operation next operations calls lane new
+      told-coming next new is_op answers = record {
+        here = t.next;
+        past = work.past;
+        present = present-after;
+        ended = work.ended;
+        comes = comes is_op next new answers;
+        keeps = answers.keeps;
+        sight = engine.events;
+        leads = subst (λ ms. LeadsBy (IsCall g) (new_caller lane.caller g) ms after-step) made-after leads-after;
+        rests = rests-after;
+        others = same-seen lane.caller engine.events engine.events refl;
+        served = t.still_served;
+        begun =
+            told-stands.begun ∙ ap (λ u. calls_made told-stands.made ++ calls_in u) calling.under
+            ∙ sym (map-append (λ (m : Made). m.call) told-stands.made (answered calling.call answer ∷ [])) ∙ ap calls_made made-after;
+        few = (works-here is_op).few;
+        rises = λ call is.
+            let so = subst (λ n. HasAnswered engine.place_of engine.need_of operation ended lane n new) is answers in
+            elim so.rises [
+              | inl rises ↦ inl rises
+              | inr again ↦
+                  let missed = again-missed call new is_op so again.0 again.1 again.2 again.3 in
+                  inr (again.3 ∙ sym again.2, inr (again.0, ap Some again.1, missed.0, missed.1))
+            ];
+        size = t.stood.size;
+        room = t.stood.room;
+      }

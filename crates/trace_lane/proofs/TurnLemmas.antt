@@ -1,35 +1,22 @@
 -- How many small allocations of a lane were answered, and where it has no turn left.
-use Rattle.std.proofs.Common.{ℕ, zero, suc, Bool, true, false, eqb, ◌≡◌, ◌≤◌, ◌+◌, ◌%◌, ◌^◌, ◌&&◌, ◌∷◌, ◌++◌, List, [], append-nil}
-use Rattle.std.proofs.Common.{Option, Some, None, refl, sym, ap, ◌∙◌, inl, inr, arith}
+use Rattle.std.proofs.Common.{ℕ, zero, suc, Bool, true, false, eqb, ◌≡◌, ◌≤◌, ◌+◌, ◌%◌, ◌^◌, ◌&&◌, ◌∷◌, ◌++◌, List, [], append-nil, Option, Some, None, refl, sym, ap, ◌∙◌, inl, inr, arith}
 use Rattle.std.specs.List.{AllByRecursion}
-use Rattle.std.specs.Prelude.{count_by, if◌then◌else◌, nat_le}
-use Rattle.std.proofs.lemmas.Bool.{true≢false, cases_Bool, eq-eqb}
-use Rattle.std.proofs.lemmas.List.Sums.{sum_by-append, sum_by-cons}
-use Rattle.heap_geometry.specs.declared.geometry.Geometry.{Geometry}
-use Rattle.heap_geometry.specs.declared.limits.TheConstants.{LARGE_MOST, SMALL_MOST}
-use Rattle.heap_geometry.specs.declared.need.Need.{Need}
-use Rattle.heap_geometry.specs.declared.need.Need.TheVariants.{Small, Large, TooLarge}
+use Rattle.trace_lane.proofs.Common.{Geometry, Need, Small, Large, TooLarge, Event, ErrandFields, IsServed, Op, Outcome, Deed, LARGE_MOST, SMALL_MOST, IsGiving, EventsOf}
+use Rattle.trace_lane.proofs.Common.{Alloc, Looked, Refuse, TakeNone, Write, IsIdle, Position, IsSpent, MayAsk, Moment, FitsRow, Setting, count_by, is_spent, deed_of}
+use Rattle.trace_lane.proofs.Common.{register_of, true≢false, cases_Bool, eq-eqb, setting_in, sum_by-append, alloc_spent, looks, caller_of, own, begins_with, alloc_answer}
+use Rattle.trace_lane.proofs.Common.{is_idle, filling, writing}
+use Rattle.std.specs.Prelude.{if◌then◌else◌, nat_le}
+use Rattle.std.proofs.lemmas.List.Sums.{sum_by-cons}
 use Rattle.heap_geometry.specs.Need.{need_of}
-use Rattle.pool_model.specs.Calls.{EventsOf, IsGiving, IsRefusing, IsSpending, alloc_spent, looks}
-use Rattle.pool_model.specs.Histories.{own, caller_of}
-use Rattle.pool_model.specs.declared.event.Event.{Event}
-use Rattle.pool_model.specs.declared.event.Event.TheVariants.{Alloc, Looked, Refuse, TakeNone, Write}
-use Rattle.errand_steps.specs.Begins.{IsIdle, alloc_answer, begins_with}
-use Rattle.errand_steps.specs.Errands.{ErrandFields, is_spent}
-use Rattle.errand_steps.specs.Points.{is_idle}
+use Rattle.pool_model.specs.Calls.{IsRefusing, IsSpending}
 use Rattle.errand_steps.specs.declared.point.Point.{Point}
 use Rattle.errand_steps.specs.declared.point.Point.TheVariants as point
 use Rattle.errand_steps.specs.declared.reply.Begun.TheVariants as begun
 use Rattle.sound_state.specs.TurnStages.{turn_stage_of, lacks_answer}
 use Rattle.sound_state.specs.Turns.{gives_small, refuses_small, is_small_alloc, one_if}
-use Rattle.step_machine.specs.Moments.{IsServed}
-use Rattle.trace_text.specs.declared.trace.Op.{Op}
-use Rattle.lane_outcomes.specs.declared.outcome.Outcome.{Outcome}
-use Rattle.lane_outcomes.specs.Lane.{Position, answered_after, answered_with, filling, is_small, writing}
-use Rattle.lane_outcomes.specs.Rows.{FitsRow, IsSpent, MayAsk, Moment, Setting, gives_another_small}
-use Rattle.lane_outcomes.specs.Deeds.{Deed, deed_of, register_of}
+use Rattle.lane_outcomes.specs.Lane.{answered_after, answered_with, is_small}
+use Rattle.lane_outcomes.specs.Rows.{gives_another_small}
 use Rattle.lane_outcomes.specs.Deeds as deed
-use Rattle.lane_outcomes.specs.Standing.{setting_in}
 use Rattle.lane_outcomes.proofs.FillLemmas.{writes_of}
 use Rattle.lane_outcomes.specs.Magazines.{empty_magazines, freeing, is_kept, magazines_given, served_by}
 use Rattle.lane_outcomes.proofs.RoomLemmas.{none-served, plain, row-room}

@@ -1,19 +1,10 @@
 -- The outcomes of a lane that made whole calls fit its events.
 use Rattle.std.proofs.Common.{ℕ, Bool, true, ◌≡◌, ◌∷◌, ◌++◌, List, [], refl, sym, ap, ◌∙◌, subst}
-use Rattle.heap_geometry.specs.declared.geometry.Geometry.{Geometry}
-use Rattle.pool_model.specs.declared.event.Event.{Event}
-use Rattle.pool_model.specs.Histories.{own}
-use Rattle.trace_text.specs.declared.trace.Op.{Op}
-use Rattle.lane_engine.specs.Callers.{Caller, IsCall}
-use Rattle.lane_outcomes.specs.Deeds.{register_of}
-use Rattle.lane_outcomes.specs.declared.outcome.Outcome.{Outcome}
+use Rattle.trace_lane.proofs.Common.{Geometry, Event, Op, Caller, IsCall, Outcome, FitsRow, AllMade, Walks, Position, own, register_of, setting_in, position_after, held_in}
+use Rattle.trace_lane.proofs.Common.{registers_after}
 use Rattle.lane_outcomes.specs.declared.outcome.Outcome.TheVariants as outcome
-use Rattle.lane_outcomes.specs.Fits.{Walks}
-use Rattle.lane_outcomes.specs.Lane.{Position, held_in, position_after, registers_after, spent_after}
-use Rattle.lane_outcomes.specs.Rows.{FitsRow}
-use Rattle.lane_outcomes.specs.Standing.{setting_in}
+use Rattle.lane_outcomes.specs.Lane.{spent_after}
 use Rattle.lane_outcomes.proofs.FitLemmas.{row-later}
-use Rattle.trace_lane.specs.Made.{AllMade}
 use Rattle.trace_lane.proofs.AddedLemmas.{HasAdded}
 use Rattle.trace_lane.proofs.AnswerLemmas.{HasMovedOn}
 use Rattle.trace_lane.proofs.CallerLemmas.{Owns, caller-laws, moved-none, moved-then}

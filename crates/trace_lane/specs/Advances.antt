@@ -1,10 +1,8 @@
 -- What the parts of an advance do: what is said of the lane's calls, and what of the machine.
-use Rattle.std.specs.Prelude.{ℕ, ◌≡◌, ◌≢◌, ◌<◌, ◌+◌, ◌%◌, ◌^◌, ◌∷◌, ◌++◌, ◌⊎◌, List, [], Bool, Option, Some, None, drop, length, nat_lt, count_by, All, vec_capacity}
-use Rattle.std.specs.Prelude.{if◌then◌else◌}
+use Rattle.std.specs.Prelude.{ℕ, ◌≡◌, ◌≢◌, ◌<◌, ◌≤◌, ◌+◌, ◌%◌, ◌^◌, ◌∷◌, ◌++◌, ◌⊎◌, List, [], Bool, Option, Some, None, drop, length, replicate, nat_lt, count_by, All, vec_capacity, if◌then◌else◌}
 use Rattle.heap_geometry.specs.declared.limits.TheConstants.{LARGE_MOST}
 use Rattle.heap_geometry.specs.declared.need.Need.{Need}
-use Rattle.heap_geometry.specs.Need.{need_of}
-use Rattle.heap_geometry.specs.Need.{usable_words}
+use Rattle.heap_geometry.specs.Need.{need_of, usable_words}
 use Rattle.pool_model.specs.declared.event.Event.{Event}
 use Rattle.pool_model.specs.Histories.{own}
 use Rattle.errand_steps.specs.declared.told.Ending.{Ending}
@@ -13,16 +11,18 @@ use Rattle.errand_steps.specs.declared.told.Stepped.{Stepped}
 use Rattle.errand_steps.specs.Calls.{Call, alloc, free, write, read, put, take}
 use Rattle.errand_steps.specs.Errands.{ErrandFields}
 use Rattle.errand_steps.specs.Told.{ended_as}
-use Rattle.sound_laws.specs.events.Made.{Made, answered}
+use Rattle.sound_laws.specs.events.Made.{LeadsBy, Made, answered}
 use Rattle.sound_laws.specs.events.UnderWay.{IsUnderWay}
 use Rattle.sound_state.specs.Moves.{is_step}
 use Rattle.sound_state.specs.Runs.{Move, begins, steps}
 use Rattle.step_machine.specs.Cores.{CoreFields, errand_at}
 use Rattle.step_machine.specs.Moments.{HasSeenMore, IsServed}
+use Rattle.trace_text.specs.declared.limits.TheConstants.{REGISTERS}
 use Rattle.trace_text.specs.declared.trace.Op.{Op}
 use Rattle.lane_engine.specs.declared.begins.NextCall.{NextCall}
 use Rattle.lane_engine.specs.declared.grip.Grip.{Grip}
 use Rattle.lane_engine.specs.Begins.{call_of}
+use Rattle.lane_engine.specs.Callers.{IsAtRest, IsCall, new_caller}
 use Rattle.lane_engine.specs.Engines.{Engine, machine_at}
 use Rattle.lane_engine.specs.Machines.{MovesCore}
 use Rattle.lane_engine.specs.Told.{HasStepped}
@@ -34,10 +34,10 @@ use Rattle.trace_lane.specs.declared.lane.LaneState.{LaneState}
 use Rattle.trace_lane.specs.declared.stage.OperationStage.{OperationStage}
 use Rattle.trace_lane.specs.declared.stage.OperationStage.TheVariants as stage
 use Rattle.trace_lane.specs.Begun.{calls_of}
-use Rattle.trace_lane.specs.Doing.{DoingOf, call_at}
-use Rattle.trace_lane.specs.Made.{MadeFor, calls_in}
-use Rattle.trace_lane.specs.Paths.{FirstPassed, IsBy, MovesLead, begun_count, held_blocks}
-use Rattle.trace_lane.specs.Scripts.{script_left, stage_begun}
+use Rattle.trace_lane.specs.Doing.{AllMadeFor}
+use Rattle.trace_lane.specs.Made.{DoingOf, MadeFor, call_at, calls_in, calls_made, registers_from}
+use Rattle.trace_lane.specs.Paths.{FirstPassed, IsBy, MovesLead, begun_count, held_blocks, stage_begun}
+use Rattle.trace_lane.specs.Scripts.{begun_bound, script_left}
 use Rattle.trace_lane.specs.States.{IsLaneOf, IsLaneOn, StandsOn}
 
 -- the operation at hand, where these have their outcomes, is this one
@@ -154,38 +154,66 @@ pub record IsTold {B : Type 0} (engine : Engine B) (operation : Op) (told : Step
   pub served : IsServed engine.geometry lane.caller e seen
   pub still_served : IsServed engine.geometry lane.caller engine.errand engine.events
 
+-- the operation at hand has come to its next call or to its outcome, by the whole calls that its caller has made; no call of it is under way. A call that doesn't rise further is a take that is tried again
+pub record IsComing {B : Type 0} (engine : Engine B) (seen : List Event) (e : ErrandFields) (operation : Op) (next : Option NextCall) (operations : List Op)
+    (calls : List Call) (old new : LaneState B) : Type 0 where
+  pub here : IsAtHand operations old.outcomes.items operation
+  pub past : List Made
+  pub present : List Made
+  pub ended : AllMadeFor (replicate REGISTERS None) operations old.outcomes.items past
+  pub comes :
+      ComesTo engine.place_of engine.need_of operation (registers_from (replicate REGISTERS None) operations old.outcomes.items) old.outcomes.items present
+      next new
+  pub keeps : KeepsLane engine.place_of engine.need_of old new
+  pub sight : List Event
+  pub leads : LeadsBy (IsCall engine.geometry) (new_caller old.caller engine.geometry) (past ++ present) (record { errand = engine.errand; seen = sight })
+  pub rests : IsAtRest engine.geometry (record { errand = engine.errand; seen = sight })
+  pub others : HasSeenMore old.caller sight engine.events
+  pub served : IsServed engine.geometry old.caller engine.errand engine.events
+  pub begun : calls ≡ calls_made (past ++ present)
+  pub few : stage_begun old.stage < begun_bound
+  pub rises :
+      (call : NextCall) → next ≡ Some call
+      → (stage_begun old.stage < stage_begun new.stage)
+      ⊎ ((new.stage ≡ old.stage) × IsAgain old.caller seen e engine.events (Some (call_of call)))
+  pub size : length old.registers.items ≡ REGISTERS
+  pub room : length operations ≤ vec_capacity old.outcomes
+
 -- what a lane has when it has gone on, and began this call or none: it stands, with this call more, and what is left of its script falls, but where the operation stays where it is
-pub record HasGoneOn {B : Type 0} (engine : Engine B) (begun : Option Call) (again : Option Call → Type 0) (operations : List Op) (calls : List Call)
+pub record HasGoneOn {B : Type 0} (engine : Engine B) (seen : List Event) (e : ErrandFields) (begun : Option Call) (operations : List Op) (calls : List Call)
     (old new : LaneState B) : Type 0 where
   pub stands : IsLaneOf engine operations new (calls ++ calls_in begun)
   pub falls :
       (script_left operations new.outcomes.items new.stage < script_left operations old.outcomes.items old.stage)
-      ⊎ ((new.outcomes.items ≡ old.outcomes.items) × (new.stage ≡ old.stage) × again begun)
+      ⊎ ((new.outcomes.items ≡ old.outcomes.items) × (new.stage ≡ old.stage) × IsAgain old.caller seen e engine.events begun)
   pub count : begun_count new.outcomes.items new.stage ≡ length old.outcomes.items + 1
 
 -- a lane went on over a machine without a step, whatever its operations are, if they and the lane were ready for that
-pub record LaneGoesOn (again : List Event → ErrandFields → Option Call → Type 0)
-    (ready : List Event → ErrandFields → List Op → List Call → LaneState Grip → Type 0) (old new : CoreFields) (lane after : LaneState Grip) : Type 0 where
+pub record LaneGoesOn (ready : List Event → ErrandFields → List Op → List Call → LaneState Grip → Type 0) (old new : CoreFields)
+    (lane after : LaneState Grip) : Type 0 where
   pub begun : Option Call
   pub called : BeganAtMost lane.caller begun old new
   pub same_caller : after.caller ≡ lane.caller
   pub gone_on :
       (seen : List Event) (e : ErrandFields) (operations : List Op) (calls : List Call) → ready seen e operations calls lane
-      → HasGoneOn (machine_at new lane.caller) begun (again seen e) operations calls lane after
+      → HasGoneOn (machine_at new lane.caller) seen e begun operations calls lane after
 
--- a lane is between two operations, and this one is the next; a step of this one came to what is told
+-- a lane is between two operations, and this one is the next; a step of this one came to what is told; it has come to its next call or to its outcome
 abbrev pub MayBeginOperation : Op → CoreFields → List Op → List Call → LaneState Grip → Type 0
 MayBeginOperation operation c operations calls lane = IsBefore (machine_at c lane.caller) operation operations calls lane
 
 abbrev pub MayGoOn : Op → Stepped Grip → CoreFields → List Event → ErrandFields → List Op → List Call → LaneState Grip → Type 0
 MayGoOn operation told c seen e operations calls lane = IsTold (machine_at c lane.caller) operation told seen e operations calls lane
 
+abbrev pub MayBeginCall : Op → Option NextCall → CoreFields → LaneState Grip → List Event → ErrandFields → List Op → List Call → LaneState Grip → Type 0
+MayBeginCall operation next c mid seen e operations calls lane = IsComing (machine_at c lane.caller) seen e operation next operations calls lane mid
+
 -- a lane goes on as its operation begins or has its outcome; and by what was told
 abbrev pub BeginsOperation : Op → CoreFields → CoreFields → LaneState Grip → LaneState Grip → Type 0
-BeginsOperation operation old new lane after = LaneGoesOn (λ seen e begun. ⊥) (λ seen e. MayBeginOperation operation old) old new lane after
+BeginsOperation operation old new lane after = LaneGoesOn (λ seen e. MayBeginOperation operation old) old new lane after
 
 abbrev pub GoesOnBy : Op → Stepped Grip → CoreFields → CoreFields → LaneState Grip → LaneState Grip → Type 0
-GoesOnBy operation told old new lane after = LaneGoesOn (λ seen e. IsAgain lane.caller seen e new.events) (MayGoOn operation told old) old new lane after
+GoesOnBy operation told old new lane after = LaneGoesOn (MayGoOn operation told old) old new lane after
 
 -- an advance goes on with the call that was under way before, or tries a take again that missed: a step that missed adds no event of the caller to those seen
 abbrev pub StaysInCall : ℕ → CoreFields → CoreFields → List Move → Type 0

@@ -1,11 +1,12 @@
--- The whole calls that a lane has made: those of its operations with their outcomes, in the script's order, each with its answer.
-use Rattle.std.specs.Prelude.{ℕ, ◌≡◌, ◌≢◌, ◌<◌, ◌%◌, ◌^◌, ◌∷◌, ◌++◌, List, [], Option, Some, None, map, sum, length, min, drop, vec_capacity}
+-- The whole calls that a lane has made: those of its operations with their outcomes, in the script's order, each with its answer; and those of an operation that is under way.
+use Rattle.std.specs.Prelude.{ℕ, ◌≡◌, ◌≢◌, ◌<◌, ◌≤◌, ◌+◌, ◌%◌, ◌^◌, ◌∷◌, ◌++◌, ◌⊎◌, List, [], Option, Some, None, map, sum, length, min, drop, slice_set, vec_capacity}
 use Rattle.std.specs.List.{slice_index_or}
 use Rattle.heap_geometry.specs.declared.need.Need.{Need}
+use Rattle.heap_geometry.specs.declared.need.Need.TheVariants.{TooLarge}
 use Rattle.heap_geometry.specs.Need.{need_of, usable_words}
 use Rattle.errand_steps.specs.declared.reply.Reply.{Reply}
 use Rattle.errand_steps.specs.declared.reply.Reply.TheVariants as reply
-use Rattle.errand_steps.specs.Calls.{Call, alloc, free, put, take}
+use Rattle.errand_steps.specs.Calls.{Call, alloc, free, put, read, take, write}
 use Rattle.trace_text.specs.declared.limits.TheConstants.{REGISTERS}
 use Rattle.trace_text.specs.declared.trace.Op.{Op}
 use Rattle.trace_text.specs.declared.trace.Op.TheVariants as op
@@ -17,9 +18,9 @@ use Rattle.lane_outcomes.specs.declared.outcome.Outcome.{Outcome}
 use Rattle.lane_outcomes.specs.declared.outcome.Outcome.TheVariants as outcome
 use Rattle.lane_outcomes.specs.Lane.{held_in, registers_after}
 use Rattle.trace_lane.specs.declared.lane.LaneState.{LaneState}
+use Rattle.trace_lane.specs.declared.stage.OperationStage.{OperationStage}
 use Rattle.trace_lane.specs.declared.stage.OperationStage.TheVariants as stage
 use Rattle.trace_lane.specs.Paths.{held_blocks}
-use Rattle.trace_lane.specs.Scripts.{registers_from}
 
 -- calls without their answers
 abbrev pub calls_made : List Made → List Call
@@ -82,15 +83,118 @@ MadeFor (Some held) (op.Resize r need) (outcome.Kept words place) made =
     (need_of need ≡ held.need) × (words ≡ held.words) × (place ≡ held.place) × (made ≡ [])
 MadeFor (Some held) (op.Resize r need) (outcome.Resized words place) made =
     (need_of need ≢ held.need) × (words ≡ usable_words (need_of need)) × (held.words ≡ usable_words held.need)
-    × (read : List ℕ) × (length read ≡ min held.words words)
+    × (found : List ℕ) × (length found ≡ min held.words words)
     × (made
     ≡ answered (alloc need) (reply.Given place (need_of need))
-    ∷ copied held.place held.need place (need_of need) read words ++ answered (free held.place held.need) reply.Freed ∷ [])
+    ∷ copied held.place held.need place (need_of need) found words ++ answered (free held.place held.need) reply.Freed ∷ [])
 MadeFor (Some held) (op.Resize r need) outcome.Refused made =
     (need_of need ≢ held.need) × (made ≡ answered (alloc need) reply.Refused ∷ [])
 MadeFor (Some held) (op.Resize r need) outcome.Spent made =
     (need_of need ≢ held.need) × (made ≡ answered (alloc need) reply.Spent ∷ [])
 MadeFor held operation result made = ⊥
+
+-- the registers after operations with these outcomes
+abbrev pub registers_from : List (Option HeldBlock) → List Op → List Outcome → List (Option HeldBlock)
+registers_from registers operations [] = registers
+registers_from registers [] (result ∷ results) = registers
+registers_from registers (operation ∷ operations) (result ∷ results) =
+    registers_from (registers_after registers operation result) operations results
+
+-- the block at this place that serves this need, as a register's
+abbrev pub held_of : ℕ → Need → HeldBlock
+held_of place need = record { place = place; words = usable_words need; need = need }
+
+-- the block of a full register
+abbrev pub held_there : Option HeldBlock → HeldBlock
+held_there (Some held) = held
+held_there None = held_of 0 TooLarge
+
+-- the word is one of a block of so many words, if that has any
+abbrev pub IsInside : ℕ → ℕ → Type 0
+IsInside next words = 0 < words → next < words
+
+-- a resize has its new block, at this place, in the register of the old one
+pub record IsReplacing (before registers : List (Option HeldBlock)) (r need : ℕ) (old : HeldBlock) (place : ℕ) : Type 0 where
+  pub was : held_in before r ≡ Some old
+  pub serves : old.words ≡ usable_words old.need
+  pub other_need : need_of need ≢ old.need
+  pub replaced : registers ≡ slice_set before r (Some (held_of place (need_of need)))
+
+-- the calls of a resize that has its new block, and has copied so many words of the old one, where these are the words that it has read
+abbrev pub replacing : HeldBlock → ℕ → ℕ → List ℕ → ℕ → List Made
+replacing old place need words count =
+    answered (alloc need) (reply.Given place (need_of need)) ∷ copied old.place old.need place (need_of need) words count
+
+-- word `next` of the old block was read, and is this one; behind that block's end none is read, and 0 stands for it
+abbrev pub IsReadFor : HeldBlock → ℕ → ℕ → List Made → Type 0
+IsReadFor old next word got =
+    ((next < old.words) × (got ≡ answered (read old.place old.need next) (reply.Word word) ∷ []))
+    ⊎ ((old.words ≤ next) × (word ≡ 0) × (got ≡ []))
+
+-- the operation under way has ended these calls, where the registers held `before` when it began and hold `registers` now
+abbrev pub DoingOf : List (Option HeldBlock) → List (Option HeldBlock) → Op → OperationStage → List Made → Type 0
+DoingOf before registers (op.Alloc r need v) stage.Calling made = (registers ≡ before) × (held_in before r ≡ None) × (made ≡ [])
+DoingOf before registers (op.Alloc r need v) (stage.Filling next) made =
+    (place : ℕ) × (held_in before r ≡ None) × (registers ≡ slice_set before r (Some (held_of place (need_of need))))
+    × IsInside next (usable_words (need_of need))
+    × (made ≡ answered (alloc need) (reply.Given place (need_of need)) ∷ wrote place (need_of need) v next)
+DoingOf before registers (op.Free r) stage.Calling made =
+    OnBlock (held_in before r) (λ held need. (registers ≡ slice_set before r None) × (made ≡ []))
+DoingOf before registers (op.Fill r v) (stage.Filling next) made =
+    OnBlock (held_in before r) (λ held need. (registers ≡ before) × IsInside next held.words × (made ≡ wrote held.place need v next))
+DoingOf before registers (op.Check r) (stage.Summing next total) made =
+    OnBlock (held_in before r)
+    (λ held need.
+    (registers ≡ before) × IsInside next held.words × (words : List ℕ) × (length words ≡ next) × (total ≡ sum words % 2 ^ 64)
+    × (made ≡ found_from held.place need 0 words))
+DoingOf before registers (op.Put r shelf) stage.Calling made =
+    OnBlock (held_in before r) (λ held need. (registers ≡ slice_set before r None) × (made ≡ []))
+DoingOf before registers (op.Take r shelf) stage.Calling made = (registers ≡ before) × (held_in before r ≡ None) × AreMisses shelf made
+DoingOf before registers (op.Resize r need) stage.Calling made =
+    OnBlock (held_in before r) (λ held had. (registers ≡ before) × (need_of need ≢ had) × (made ≡ []))
+DoingOf before registers (op.Resize r need) (stage.Copying old next None) made =
+    (place : ℕ) × IsReplacing before registers r need old place × IsInside next old.words × IsInside next (usable_words (need_of need))
+    × (words : List ℕ) × (length words ≡ next) × (made ≡ replacing old place need words next)
+DoingOf before registers (op.Resize r need) (stage.Copying old next (Some word)) made =
+    (place : ℕ) × IsReplacing before registers r need old place × IsInside next (usable_words (need_of need))
+    × (words : List ℕ) × (length words ≡ min old.words next) × (got : List Made) × IsReadFor old next word got
+    × (made ≡ replacing old place need words next ++ got)
+DoingOf before registers (op.Resize r need) stage.Releasing made =
+    (old : HeldBlock) × (place : ℕ) × IsReplacing before registers r need old place
+    × (words : List ℕ) × (length words ≡ min old.words (usable_words (need_of need)))
+    × (made ≡ replacing old place need words (usable_words (need_of need)))
+DoingOf before registers operation at made = ⊥
+
+-- the write of a block's word; of one that is filled from v on; its read, and the block's free
+abbrev pub writes : HeldBlock → ℕ → ℕ → Call
+writes held next word = write held.place held.need next word
+
+abbrev pub fills : HeldBlock → ℕ → ℕ → Call
+fills held v next = write held.place held.need next ((v + next) % 2 ^ 64)
+
+abbrev pub reads : HeldBlock → ℕ → Call
+reads held next = read held.place held.need next
+
+abbrev pub frees : HeldBlock → Call
+frees held = free held.place held.need
+
+-- the call that is under way
+abbrev pub call_at : List (Option HeldBlock) → List (Option HeldBlock) → Op → OperationStage → Call
+call_at before registers (op.Alloc r need v) (stage.Filling next) = fills (held_there (held_in registers r)) v next
+call_at before registers (op.Alloc r need v) at = alloc need
+call_at before registers (op.Free r) at = frees (held_there (held_in before r))
+call_at before registers (op.Fill r v) (stage.Filling next) = fills (held_there (held_in registers r)) v next
+call_at before registers (op.Fill r v) at = alloc 0
+call_at before registers (op.Check r) (stage.Summing next total) = reads (held_there (held_in registers r)) next
+call_at before registers (op.Check r) at = alloc 0
+call_at before registers (op.Put r shelf) at =
+    put (held_there (held_in before r)).place (held_there (held_in before r)).need shelf
+call_at before registers (op.Take r shelf) at = take shelf
+call_at before registers (op.Resize r need) (stage.Copying old next None) = reads old next
+call_at before registers (op.Resize r need) (stage.Copying old next (Some word)) =
+    writes (held_there (held_in registers r)) next word
+call_at before registers (op.Resize r need) stage.Releasing = frees (held_there (held_in before r))
+call_at before registers (op.Resize r need) at = alloc need
 
 module _ {S : Type 0} (called : S → Call → Reply → S → Type 0) where
   -- an operation with its outcome led from one state to another

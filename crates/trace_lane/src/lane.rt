@@ -1,20 +1,19 @@
 //! One lane of a trace, and how it goes on by one atomic step of a machine after another.
 
-ghost use Rattle.std.specs.Prelude.{ℕ, ◌≡◌, ◌<◌, ◌-◌, ◌^◌, ◌↔◌, ◌++◌, ◌∷◌, List, [], None, Ok, IfOk, OnErr, All, length, min, false, replicate, IsTrue};
+ghost use Rattle.std.specs.Prelude.{◌≡◌, ◌<◌, ◌-◌, ◌^◌, ◌↔◌, ◌++◌, ◌∷◌, List, [], None, Ok, IfOk, OnErr, All, length, min, false, replicate, IsTrue};
 ghost use Rattle.std.specs.Vec.{vec_capacity};
 ghost use Rattle.trace_text.specs.declared.limits.TheConstants.{REGISTERS};
 ghost use Rattle.trace_text.specs.Traces.{IsOp};
 ghost use Rattle.trace_lane.specs.declared.stage.OperationStage.TheVariants as stage;
-ghost use Rattle.trace_lane.specs.Advances.{AdvancesOn, BeginsOperation, GoesOnBy, MayBeginOperation, MayGoOn};
+ghost use Rattle.trace_lane.specs.Advances.{AdvancesOn, BeginsOperation, GoesOnBy, LaneGoesOn, MayBeginCall, MayBeginOperation, MayGoOn};
 ghost use Rattle.trace_lane.specs.States.{IsNew, StandsOn};
+ghost use Rattle.trace_lane.specs.declared.lane.LaneState.{LaneState};
 ghost use Rattle.pool_model.specs.declared.event.Event.{Event};
 ghost use Rattle.errand_steps.specs.Calls.{Call};
 ghost use Rattle.errand_steps.specs.Errands.{ErrandFields};
 ghost use Rattle.trace_text.specs.declared.trace.Op.{Op};
 ghost use Rattle.lane_engine.specs.Machines.{ServesCaller};
 
-mod answers;
-mod begins;
 mod calls;
 mod registers;
 
@@ -139,14 +138,16 @@ impl<B: Token + Drop> LaneState<B> {
 }
 
 impl LaneState<Grip> {
-    /// Begins an operation: its first call, or its outcome where it has none, or no turn is left for it.
-    fn start(&mut self, core: &mut Core, operation: Op)
+    /// Begins the call to which the operation at hand has come, if it has come to one; one that finds no turn left is answered.
+    fn begin_call(&mut self, core: &mut Core, operation: Op, next: Option<NextCall>)
         requires serves { ServesCaller core.old self.old.caller }
         requires operation { IsOp operation }
-        requires ready { (operations : List Op) × (calls : List Call) × MayBeginOperation operation core.old operations calls self.old }
-        ensures begun { BeginsOperation operation core.old core.new self.old self.new }
+        requires ready { (seen : List Event) × (e : ErrandFields) × (operations : List Op) × (calls : List Call) × (lane : LaneState Grip)
+            × MayBeginCall operation next core.old self.old seen e operations calls lane }
+        ensures begun { (lane : LaneState Grip) → self.old.caller ≡ lane.caller
+            → LaneGoesOn (MayBeginCall operation next core.old self.old) core.old core.new lane self.new }
     {
-        let Some(call) = self.begin(operation) else {
+        let Some(call) = next else {
             return;
         };
         match begin(core, self.caller, call) {
@@ -156,6 +157,17 @@ impl LaneState<Grip> {
             }
             Begun::TooLarge => unreachable!(),
         }
+    }
+
+    /// Begins an operation: its first call, or its outcome where it has none, or no turn is left for it.
+    fn start(&mut self, core: &mut Core, operation: Op)
+        requires serves { ServesCaller core.old self.old.caller }
+        requires operation { IsOp operation }
+        requires ready { (operations : List Op) × (calls : List Call) × MayBeginOperation operation core.old operations calls self.old }
+        ensures begun { BeginsOperation operation core.old core.new self.old self.new }
+    {
+        let next = self.begin(operation);
+        self.begin_call(core, operation, next);
     }
 
     /// Goes on by what a step of the operation at hand came to: begins its next call, if it has one.
@@ -169,9 +181,8 @@ impl LaneState<Grip> {
         let Stepped::Done(ended) = told else {
             return;
         };
-        if let Some(call) = self.answer(operation, ended) {
-            let _ = begin(core, self.caller, call);
-        }
+        let next = self.answer(operation, ended);
+        self.begin_call(core, operation, next);
     }
 
     /// Begins the operations that are next, up to the first one that takes a step; where an operation is

@@ -1,6 +1,5 @@
 -- Numbers and lines where they stand in a text, as they are printed.
 use Rattle.std.proofs.Common.{◌≡◌, ℕ, ◌+◌, ◌-◌, ◌*◌, ◌<◌, ◌≤◌, ◌^◌, ◌%◌, true, List, [], ◌∷◌, ◌++◌, length, get_or, take, drop, map, set, zero, suc, Some, refl, sym, ap, ◌∙◌, add-zero, append_assoc, append-nil, arith, leb, inl, inr}
-use Rattle.std.specs.Prelude.{codes}
 use Rattle.std.specs.Char.{is_ascii_digit}
 use Rattle.std.specs.Fmt.{decimal}
 use Rattle.std.specs.List.{list_all, flat_map}
@@ -9,15 +8,19 @@ use Rattle.std.proofs.lemmas.Bool.{and_parts, cases_lt, leb-true}
 use Rattle.std.proofs.lemmas.Grind.{flat_map-append}
 use Rattle.std.proofs.lemmas.List.{take-append-drop, drop-drop, drop_more, get_or-drop, get_or-take, length-drop, length-take}
 use Rattle.std.proofs.lemmas.List.Elements.{All-append, All-cons, All-nil}
-use Rattle.trace_text.specs.Canonical.{EndsLine, IsNumberAt, IsOpAt, BeginsWithOps, last_with_all}
+use Rattle.trace_text.specs.Canonical.{EndsLine, IsNumberAt, AreNumbersAt, IsOpAt, BeginsWithOps, last_with_all}
 use Rattle.trace_text.specs.Said.{last_with}
-use Rattle.trace_text.specs.Text.{line, op_fields, op_line}
+use Rattle.trace_text.specs.Operations.{decimals, kinds_in, made_in, most_of}
+use Rattle.trace_text.specs.Text.{line, op_line}
 use Rattle.trace_text.specs.Traces.{IsOp, IsAllowed}
+use Rattle.trace_text.specs.declared.kinds.Kind.{Kind}
+use Rattle.trace_text.specs.declared.kinds.Kinds.{Kinds}
+use Rattle.trace_text.specs.declared.kinds.Kinds.TheVariants as kinds
+use Rattle.trace_text.specs.declared.kinds.Numbers.{Numbers}
 use Rattle.trace_text.specs.declared.trace.Op.{Op}
-use Rattle.trace_text.specs.declared.trace.Op.TheVariants.{Alloc, Free, Fill, Check, Put, Take, Resize}
 use Rattle.trace_text.specs.declared.trace.Version.{Version}
-use Rattle.trace_text.specs.declared.trace.Version.TheVariants.{Two}
 use Rattle.trace_text.specs.Numbers.{number_in}
+use Rattle.trace_text.proofs.OperationLemmas.{made_of_kinds, most_kind}
 use Rattle.trace_text.proofs.NumberLemmas.{digits_more, few_digits, no_wrap, number_in-few, number_found}
 
 -- a byte that ends no line is not the last
@@ -79,81 +82,72 @@ number_stands text start at end n later within few digits alone_at value byte =
 
 -- ---- lines
 
-line_of_one : (a rest : List ℕ) (w : ℕ) → line ((w ∷ []) ∷ a ∷ []) ++ rest ≡ w ∷ 32 ∷ (a ++ 10 ∷ rest)
-line_of_one a rest w = ap (λ back. w ∷ 32 ∷ back) (append_assoc a (10 ∷ []) rest)
+-- one number stands as it is printed
+pub one_stands :
+    (a : Kind) (text : List ℕ) (start x after : ℕ) → IsNumberAt text start 10 x after → x ≤ most_of a
+    → AreNumbersAt (kinds.One a) text start (record { first = x; second = 0; third = 0 }) after
+one_stands a text start x after p h =
+    record {
+      kind = most_kind a x h;
+      later = p.later;
+      within = p.within;
+      spelled = p.spelled ∙ sym (append_assoc (decimal x) (10 ∷ []) (drop after text));
+    }
 
-line_of_two : (a b rest : List ℕ) (w : ℕ) → line ((w ∷ []) ∷ a ∷ b ∷ []) ++ rest ≡ w ∷ 32 ∷ (a ++ 32 ∷ (b ++ 10 ∷ rest))
-line_of_two a b rest w =
-    ap (λ back. w ∷ 32 ∷ back) (append_assoc (a ++ 32 ∷ b) (10 ∷ []) rest ∙ append_assoc a (32 ∷ b) (10 ∷ rest))
+-- two numbers
+pub two_stand :
+    (a b : Kind) (text : List ℕ) (start x next y after : ℕ) → IsNumberAt text start 32 x next → IsNumberAt text next 10 y after → x ≤ most_of a → y ≤ most_of b
+    → AreNumbersAt (kinds.Two a b) text start (record { first = x; second = y; third = 0 }) after
+two_stand a b text start x next y after p q h k =
+    record {
+      kind = (most_kind a x h, most_kind b y k);
+      later = omega (arith, p.later, q.later);
+      within = q.within;
+      spelled =
+          p.spelled
+          ∙ ap (λ back. decimal x ++ 32 ∷ back) q.spelled
+          ∙ sym (append_assoc (decimal x ++ 32 ∷ decimal y) (10 ∷ []) (drop after text) ∙ append_assoc (decimal x) (32 ∷ decimal y) (10 ∷ drop after text));
+    }
 
-line_of_three : (a b c rest : List ℕ) (w : ℕ) → line ((w ∷ []) ∷ a ∷ b ∷ c ∷ []) ++ rest ≡ w ∷ 32 ∷ (a ++ 32 ∷ (b ++ 32 ∷ (c ++ 10 ∷ rest)))
-line_of_three a b c rest w =
-    ap (λ back. w ∷ 32 ∷ back)
-    (append_assoc (a ++ 32 ∷ (b ++ 32 ∷ c)) (10 ∷ []) rest ∙ append_assoc a (32 ∷ (b ++ 32 ∷ c)) (10 ∷ rest) ∙ ap (λ back. a ++ 32 ∷ back) (append_assoc b (32 ∷ c) (10 ∷ rest)))
+-- three numbers
+pub three_stand :
+    (a b c : Kind) (text : List ℕ) (start x next y third z after : ℕ) → IsNumberAt text start 32 x next → IsNumberAt text next 32 y third → IsNumberAt text third 10 z after
+    → x ≤ most_of a → y ≤ most_of b → z ≤ most_of c → AreNumbersAt (kinds.Three a b c) text start (record { first = x; second = y; third = z }) after
+three_stand a b c text start x next y third z after p q r h k l =
+    record {
+      kind = (most_kind a x h, most_kind b y k, most_kind c z l);
+      later = omega (arith, p.later, q.later, r.later);
+      within = r.within;
+      spelled =
+          p.spelled
+          ∙ ap (λ back. decimal x ++ 32 ∷ back) (q.spelled ∙ ap (λ back. decimal y ++ 32 ∷ back) r.spelled)
+          ∙ sym
+          (append_assoc (decimal x ++ 32 ∷ (decimal y ++ 32 ∷ decimal z)) (10 ∷ []) (drop after text)
+          ∙ append_assoc (decimal x) (32 ∷ (decimal y ++ 32 ∷ decimal z)) (10 ∷ drop after text)
+          ∙ ap (λ back. decimal x ++ 32 ∷ back) (append_assoc (decimal y) (32 ∷ decimal z) (10 ∷ drop after text)));
+    }
 
--- a word and one number are a line
-spelled_one : (text : List ℕ) (start a after w : ℕ) → IsNumberAt text start 10 a after → w ∷ 32 ∷ drop start text ≡ line ((w ∷ []) ∷ decimal a ∷ []) ++ drop after text
-spelled_one text start a after w x = ap (λ back. w ∷ 32 ∷ back) x.spelled ∙ sym (line_of_one (decimal a) (drop after text) w)
+-- a letter and a space before the printed numbers
+letter_line : (letter : ℕ) (k : Kinds) (n : Numbers) → line ((letter ∷ []) ∷ decimals k n) ≡ letter ∷ 32 ∷ line (decimals k n)
+letter_line letter (kinds.One a) n = refl
+letter_line letter (kinds.Two a b) n = refl
+letter_line letter (kinds.Three a b c) n = refl
 
--- a word and two numbers are a line
-spelled_two :
-    (text : List ℕ) (start a next b after w : ℕ) → IsNumberAt text start 32 a next → IsNumberAt text next 10 b after
-    → w ∷ 32 ∷ drop start text ≡ line ((w ∷ []) ∷ decimal a ∷ decimal b ∷ []) ++ drop after text
-spelled_two text start a next b after w x y =
-    ap (λ back. w ∷ 32 ∷ back) (x.spelled ∙ ap (λ back. decimal a ++ 32 ∷ back) y.spelled) ∙ sym (line_of_two (decimal a) (decimal b) (drop after text) w)
-
--- a word and three numbers are a line
-spelled_three :
-    (text : List ℕ) (start a next b third c after w : ℕ) → IsNumberAt text start 32 a next → IsNumberAt text next 32 b third → IsNumberAt text third 10 c after
-    → w ∷ 32 ∷ drop start text ≡ line ((w ∷ []) ∷ decimal a ∷ decimal b ∷ decimal c ∷ []) ++ drop after text
-spelled_three text start a next b third c after w x y z =
-    ap (λ back. w ∷ 32 ∷ back) (x.spelled ∙ ap (λ back. decimal a ++ 32 ∷ back) (y.spelled ∙ ap (λ back. decimal b ++ 32 ∷ back) z.spelled))
-    ∙ sym (line_of_three (decimal a) (decimal b) (decimal c) (drop after text) w)
-
-pub alloc_stands :
-    (version : Version) (text : List ℕ) (start r next need third v after : ℕ) → IsNumberAt text start 32 r next → IsNumberAt text next 32 need third → IsNumberAt text third 10 v after
-    → IsOp (Alloc r need v) → IsOpAt version (codes "a ") text start (Alloc r need v) after
-unfolding op_fields
-alloc_stands version text start r next need third v after x y z named =
-    record { named = named; allowed = tt; later = omega (arith, x.later, y.later, z.later); within = z.within; spelled = spelled_three text start r next need third v after 97 x y z }
-
-pub free_stands : (version : Version) (text : List ℕ) (start r after : ℕ) → IsNumberAt text start 10 r after → IsOp (Free r) → IsOpAt version (codes "f ") text start (Free r) after
-unfolding op_fields
-free_stands version text start r after x named =
-    record { named = named; allowed = tt; later = x.later; within = x.within; spelled = spelled_one text start r after 102 x }
-
-pub check_stands : (version : Version) (text : List ℕ) (start r after : ℕ) → IsNumberAt text start 10 r after → IsOp (Check r) → IsOpAt version (codes "c ") text start (Check r) after
-unfolding op_fields
-check_stands version text start r after x named =
-    record { named = named; allowed = tt; later = x.later; within = x.within; spelled = spelled_one text start r after 99 x }
-
-pub fill_stands :
-    (version : Version) (text : List ℕ) (start r next v after : ℕ) → IsNumberAt text start 32 r next → IsNumberAt text next 10 v after
-    → IsOp (Fill r v) → IsOpAt version (codes "w ") text start (Fill r v) after
-unfolding op_fields
-fill_stands version text start r next v after x y named =
-    record { named = named; allowed = tt; later = omega (arith, x.later, y.later); within = y.within; spelled = spelled_two text start r next v after 119 x y }
-
-pub put_stands :
-    (version : Version) (text : List ℕ) (start r next shelf after : ℕ) → IsNumberAt text start 32 r next → IsNumberAt text next 10 shelf after
-    → IsOp (Put r shelf) → IsOpAt version (codes "p ") text start (Put r shelf) after
-unfolding op_fields
-put_stands version text start r next shelf after x y named =
-    record { named = named; allowed = tt; later = omega (arith, x.later, y.later); within = y.within; spelled = spelled_two text start r next shelf after 112 x y }
-
-pub take_stands :
-    (version : Version) (text : List ℕ) (start r next shelf after : ℕ) → IsNumberAt text start 32 r next → IsNumberAt text next 10 shelf after
-    → IsOp (Take r shelf) → IsOpAt version (codes "t ") text start (Take r shelf) after
-unfolding op_fields
-take_stands version text start r next shelf after x y named =
-    record { named = named; allowed = tt; later = omega (arith, x.later, y.later); within = y.within; spelled = spelled_two text start r next shelf after 116 x y }
-
-pub resize_stands :
-    (version : Version) (text : List ℕ) (start r next need after : ℕ) → IsNumberAt text start 32 r next → IsNumberAt text next 10 need after
-    → IsOp (Resize r need) → version ≡ Two → IsOpAt version (codes "r ") text start (Resize r need) after
-unfolding op_fields
-resize_stands version text start r next need after x y named allowed =
-    record { named = named; allowed = allowed; later = omega (arith, x.later, y.later); within = y.within; spelled = spelled_two text start r next need after 114 x y }
+-- the line of an operation stands where the numbers behind its letter do
+pub op_stands :
+    (version : Version) (letter : ℕ) (text : List ℕ) (start after : ℕ) (k : Kinds) (n : Numbers) (op : Op) → kinds_in version letter ≡ Some k → made_in letter n ≡ Some op
+    → AreNumbersAt k text start n after → IsOpAt version (letter ∷ 32 ∷ []) text start op after
+op_stands version letter text start after k n op said made at =
+    let by = made_of_kinds version letter k n op said made at.kind in
+    record {
+      named = by.0;
+      allowed = by.1;
+      later = at.later;
+      within = at.within;
+      spelled =
+          ap (λ back. letter ∷ 32 ∷ back) at.spelled
+          ∙ ap (λ front. front ++ drop after text) (sym (letter_line letter k n) ∙ ap line (sym by.2));
+    }
 
 -- a line stands where its word does, two places before its first number
 pub with_word :

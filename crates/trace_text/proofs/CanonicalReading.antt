@@ -15,8 +15,9 @@ use Rattle.trace_text.specs.declared.trace.Op.{Op}
 use Rattle.trace_text.specs.declared.trace.Trace.{Trace}
 use Rattle.trace_text.specs.declared.trace.Version.TheVariants.{Two}
 use Rattle.trace_text.proofs.NamedLemmas.{length-last_with, op_more}
+use Rattle.trace_text.proofs.OperationLemmas.{op_are_fields, op_some}
 use Rattle.trace_text.proofs.PrintedLemmas.{Printed-joined, fields_of-joined, lines_of-line, plain_line}
-use Rattle.trace_text.proofs.RoundLemmas.{op_after, op_are_fields, op_some}
+use Rattle.trace_text.proofs.RoundLemmas.{op_after}
 
 -- the line of an operation, in a lane, is read, and then the rest
 one_read :

@@ -5,6 +5,7 @@ pub mod LawLemmas
 pub mod LineLemmas
 pub mod NamedLemmas
 pub mod NumberLemmas
+pub mod OperationLemmas
 pub mod PlainLemmas
 pub mod PrintedLemmas
 pub mod RoundLemmas

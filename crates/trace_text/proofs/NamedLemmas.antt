@@ -1,30 +1,34 @@
 -- What is read so far is a trace that a text can name.
-use Rattle.std.proofs.Common.{◌≡◌, ℕ, suc, ◌+◌, ◌-◌, ◌^◌, ◌<◌, ◌⊎◌, max, Bool, true, false, cond, ltb, leb, List, [], ◌∷◌, ◌++◌, length, Option, Some, None, is_some, unwrap_or, Result, Ok, Err, refl, sym, ap, ◌∙◌, subst, arith, inl, inr, length-append}
+use Rattle.std.proofs.Common.{◌≡◌, ℕ, suc, ◌+◌, ◌<◌, ◌⊎◌, max, Bool, true, false, cond, ltb, leb, List, [], ◌∷◌, ◌++◌, length, Option, Some, None, is_some, unwrap_or, Result, Ok, Err, refl, sym, ap, ◌∙◌, subst, arith, inl, inr, length-append}
+use Rattle.std.specs.Option.{ok_or}
 use Rattle.std.specs.Prelude.{codes}
 use Rattle.std.specs.List.{All, list_all}
 use Rattle.std.specs.Str.{bytes_eq}
-use Rattle.std.proofs.lemmas.Bool.{and_parts, eqb-true, ltb-true, leb-true}
+use Rattle.std.proofs.lemmas.Bool.{cases_Bool, and_parts, eqb-true, ltb-true, leb-true}
 use Rattle.std.proofs.lemmas.List.Elements.{All-nil, All-cons, All-push, All-head, All-tail}
 use Rattle.heap_geometry.specs.Geometry.{IsWithin}
-use Rattle.heap_geometry.specs.declared.limits.TheConstants.{MAX_FRAMES, MAX_HEAPS, MAX_UNITS, MAX_TURNS, LARGE_MOST, SHELVES}
-use Rattle.trace_text.specs.declared.limits.TheConstants.{REGISTERS, MAX_LANES, ORDER_MOST}
+use Rattle.heap_geometry.specs.declared.limits.TheConstants.{MAX_FRAMES, MAX_HEAPS, MAX_UNITS, MAX_TURNS}
+use Rattle.trace_text.specs.declared.limits.TheConstants.{MAX_LANES, ORDER_MOST}
 use Rattle.trace_text.specs.declared.fault.Cause.{Cause}
 use Rattle.trace_text.specs.declared.fault.Cause.TheVariants.{BadGeometry, OutOfRange, UnknownOp, NotAscii, TooManyLanes}
 use Rattle.trace_text.specs.declared.stage.ReadingStage.{ReadingStage}
 use Rattle.trace_text.specs.declared.stage.ReadingStage.TheVariants.{Before, Inside, Ended}
+use Rattle.trace_text.specs.declared.kinds.Kind.{Kind}
+use Rattle.trace_text.specs.declared.kinds.Kinds.{Kinds}
+use Rattle.trace_text.specs.declared.kinds.Kinds.TheVariants as kinds
+use Rattle.trace_text.specs.declared.kinds.Numbers.{Numbers}
 use Rattle.trace_text.specs.declared.trace.Op.{Op}
-use Rattle.trace_text.specs.declared.trace.Op.TheVariants.{Alloc, Free, Fill, Check, Put, Take, Resize}
 use Rattle.trace_text.specs.declared.trace.OrderRun.{OrderRun}
 use Rattle.trace_text.specs.declared.trace.Trace.{Trace}
 use Rattle.trace_text.specs.declared.trace.Version.{Version}
-use Rattle.trace_text.specs.declared.trace.Version.TheVariants.{One, Two}
 use Rattle.trace_text.specs.Causes.{◌>>=◌}
 use Rattle.trace_text.specs.Lines.{is_plain, is_comment, fields_of}
 use Rattle.trace_text.specs.Numbers.{number_in}
-use Rattle.trace_text.specs.Said.{numeral_in, ranged, register_of, need_of, shelf_of, none_in, one_in, two_in, three_in, heap_numbers_in, version_in, heap_in, alloc_in, free_in, fill_in, check_in, put_in, take_in, resize_in, op_in, op_of, order_in, last_with, with_lane, with_op, with_order, is_unordered, after_lane, after_order, after_end, after_op, after_inner, after_first, after_word, after_fields, after_line}
+use Rattle.trace_text.specs.Operations.{Maker, written_by, made_by, made_by_some, kinds_by, maker_of, most_of, is_since, IsKind, AreWithin}
+use Rattle.trace_text.specs.Said.{numeral_in, ranged, kind_of, none_in, one_in, two_in, three_in, heap_numbers_in, version_in, heap_in, numbers_in, op_by, op_of, order_in, last_with, with_lane, with_op, with_order, is_unordered, after_lane, after_order, after_end, after_op, after_inner, after_first, after_word, after_fields, after_line}
 use Rattle.trace_text.specs.Stages.{HasTrace}
 use Rattle.trace_text.specs.Traces.{IsOp, IsAllowed, IsOrder, IsTrace, callers_of}
-use Rattle.trace_text.proofs.NumberLemmas.{number_found}
+use Rattle.trace_text.proofs.OperationLemmas.{kept_some, made_named, most_kind}
 
 -- a step that did not fail gave a value, and what follows was made of it
 pub bind_ok : {A B : Type 0} (r : Result A Cause) (f : A → Result B Cause) (y : B) → (r >>= f) ≡ Ok y → (x : A) × (r ≡ Ok x) × (f x ≡ Ok y)
@@ -55,7 +59,7 @@ ranged_ok cause low high n m e =
     let is : n ≡ m = ok_is n m k.1 in
     (is, (rw (← is) (leb-true low n both.0), rw (← is) (leb-true n high both.1)))
 
-ok_or_some : (o : Option ℕ) (cause : Cause) (n : ℕ) → Rattle.std.specs.Option.ok_or o cause ≡ Ok n → o ≡ Some n
+ok_or_some : (o : Option ℕ) (cause : Cause) (n : ℕ) → ok_or o cause ≡ Ok n → o ≡ Some n
 ok_or_some (Some m) cause n e = cc
 ok_or_some None cause n e = absurd cc
 
@@ -63,117 +67,78 @@ pub numeral_some : (field : List ℕ) (n : ℕ) → numeral_in field ≡ Ok n �
 unfolding numeral_in
 numeral_some field n e = ok_or_some (number_in field) _ n e
 
-numeral_ok : (field : List ℕ) (n : ℕ) → numeral_in field ≡ Ok n → n < 2 ^ 64
-numeral_ok field n e = (number_found field n (numeral_some field n e)).0
+pub kind_ok : (a : Kind) (n m : ℕ) → kind_of a n ≡ Ok m → (n ≡ m) × IsKind a m
+kind_ok a n m e = let r = ranged_ok OutOfRange 0 (most_of a) n m e in (r.0, most_kind a m r.1.1)
 
-two_ok : (fields : List (List ℕ)) (n : ℕ × ℕ) → two_in fields ≡ Ok n → n.1 < 2 ^ 64
-unfolding two_in
-two_ok [] n e = absurd cc
-two_ok (a ∷ []) n e = absurd cc
-two_ok (a ∷ b ∷ []) n e =
-    let x = bind_ok (numeral_in a) (λ a. numeral_in b >>= λ b. Ok (a, b)) n e in
-    let y = bind_ok (numeral_in b) (λ b. Ok (x.0, b)) n x.2 in
-    let is : (x.0, y.0) ≡ n = ok_is (x.0, y.0) n y.2 in
-    rw (← is) (numeral_ok b y.0 y.1)
-two_ok (a ∷ b ∷ c ∷ fields) n e = absurd cc
+abbrev numbers : ℕ → ℕ → ℕ → Numbers
+numbers x y z = record { first = x; second = y; third = z }
 
-three_ok : (fields : List (List ℕ)) (n : ℕ × ℕ × ℕ) → three_in fields ≡ Ok n → n.2 < 2 ^ 64
-unfolding three_in
-three_ok [] n e = absurd cc
-three_ok (a ∷ []) n e = absurd cc
-three_ok (a ∷ b ∷ []) n e = absurd cc
-three_ok (a ∷ b ∷ c ∷ []) n e =
-    let x = bind_ok (numeral_in a) (λ a. numeral_in b >>= λ b. numeral_in c >>= λ c. Ok (a, b, c)) n e in
-    let y = bind_ok (numeral_in b) (λ b. numeral_in c >>= λ c. Ok (x.0, b, c)) n x.2 in
-    let z = bind_ok (numeral_in c) (λ c. Ok (x.0, y.0, c)) n y.2 in
-    let is : (x.0, y.0, z.0) ≡ n = ok_is (x.0, y.0, z.0) n z.2 in
-    rw (← is) (numeral_ok c z.0 z.1)
-three_ok (a ∷ b ∷ c ∷ d ∷ fields) n e = absurd cc
+pub numbers_ok : (k : Kinds) (fields : List (List ℕ)) (n : Numbers) → numbers_in k fields ≡ Ok n → AreWithin k n
+unfolding numbers_in
+numbers_ok (kinds.One a) fields n e =
+    let f = bind_ok (one_in fields) (λ n. kind_of a n >>= λ x. Ok (numbers x 0 0)) n e in
+    let x = bind_ok (kind_of a f.0) (λ x. Ok (numbers x 0 0)) n f.2 in
+    subst (AreWithin (kinds.One a)) (ok_is (numbers x.0 0 0) n x.2) (kind_ok a f.0 x.0 x.1).1
+numbers_ok (kinds.Two a b) fields n e =
+    let f = bind_ok (two_in fields) (λ n. kind_of a n.0 >>= λ x. kind_of b n.1 >>= λ y. Ok (numbers x y 0)) n e in
+    let x = bind_ok (kind_of a f.0.0) (λ x. kind_of b f.0.1 >>= λ y. Ok (numbers x y 0)) n f.2 in
+    let y = bind_ok (kind_of b f.0.1) (λ y. Ok (numbers x.0 y 0)) n x.2 in
+    subst (AreWithin (kinds.Two a b)) (ok_is (numbers x.0 y.0 0) n y.2) ((kind_ok a f.0.0 x.0 x.1).1, (kind_ok b f.0.1 y.0 y.1).1)
+numbers_ok (kinds.Three a b c) fields n e =
+    let f = bind_ok (three_in fields) (λ n. kind_of a n.0 >>= λ x. kind_of b n.1 >>= λ y. kind_of c n.2 >>= λ z. Ok (numbers x y z)) n e in
+    let x = bind_ok (kind_of a f.0.0) (λ x. kind_of b f.0.1 >>= λ y. kind_of c f.0.2 >>= λ z. Ok (numbers x y z)) n f.2 in
+    let y = bind_ok (kind_of b f.0.1) (λ y. kind_of c f.0.2 >>= λ z. Ok (numbers x.0 y z)) n x.2 in
+    let z = bind_ok (kind_of c f.0.2) (λ z. Ok (numbers x.0 y.0 z)) n y.2 in
+    subst (AreWithin (kinds.Three a b c)) (ok_is (numbers x.0 y.0 z.0) n z.2) ((kind_ok a f.0.0 x.0 x.1).1, (kind_ok b f.0.1 y.0 y.1).1, (kind_ok c f.0.2 z.0 z.1).1)
+
+-- an operation that was read was made by the maker of its letter
+abbrev pub IsRead : Version → Option Maker → List (List ℕ) → Op → Type 0
+IsRead version o fields op =
+    (maker : Maker) × (o ≡ Some maker) × (is_since (written_by maker).since version ≡ true) × (n : Numbers) × (numbers_in (written_by maker).kinds fields ≡ Ok n) × (made_by maker n ≡ op)
+
+pub op_by_read : (version : Version) (o : Option Maker) (fields : List (List ℕ)) (op : Op) → op_by version o fields ≡ Ok op → IsRead version o fields op
+unfolding op_by
+op_by_read version None fields op e = absurd cc
+op_by_read version (Some maker) fields op e =
+    let known = kept (is_since (written_by maker).since version) (numbers_in (written_by maker).kinds fields >>= λ n. Ok (made_by maker n)) UnknownOp op e in
+    let n = bind_ok (numbers_in (written_by maker).kinds fields) (λ n. Ok (made_by maker n)) op known.1 in
+    (maker, refl, known.0, n.0, n.1, ok_is (made_by maker n.0) op n.2)
+
+-- a letter behind which nothing is said is no operation's
+pub no_kinds : (version : Version) (o : Option Maker) (fields : List (List ℕ)) → kinds_by version o ≡ None → op_by version o fields ≡ Err UnknownOp
+unfolding op_by
+no_kinds version None fields e = refl
+no_kinds version (Some maker) fields e =
+    elim (cases_Bool (is_since (written_by maker).since version)) [
+      | inl known ↦ let absent : Some (written_by maker).kinds ≡ None = rw known at e in absurd cc
+      | inr other ↦ rw other refl
+    ]
+
+some_known :
+    (version : Version) (maker : Maker) (k : Kinds) (fields : List (List ℕ)) → is_since (written_by maker).since version ≡ true → (written_by maker).kinds ≡ k
+    → op_by version (Some maker) fields ≡ (numbers_in k fields >>= λ n. Ok (made_by maker n))
+unfolding op_by
+some_known version maker k fields since same = rw (since, ← same) refl
+
+-- the operation of a letter is what is made of it and of the numbers behind it
+pub some_kinds :
+    (version : Version) (o : Option Maker) (k : Kinds) (fields : List (List ℕ)) → kinds_by version o ≡ Some k
+    → op_by version o fields ≡ (numbers_in k fields >>= λ n. ok_or (made_by_some o n) UnknownOp)
+some_kinds version None k fields e = absurd cc
+some_kinds version (Some maker) k fields e = let both = kept_some (is_since (written_by maker).since version) (written_by maker).kinds k e in some_known version maker k fields both.0 both.1
 
 -- an operation that a text of this version can name
 abbrev pub IsNamed : Version → Op → Type 0
 IsNamed version op = IsOp op × IsAllowed version op
 
-alloc_ok : (version : Version) (fields : List (List ℕ)) (op : Op) → alloc_in fields ≡ Ok op → IsNamed version op
-unfolding alloc_in
-alloc_ok version fields op e =
-    let n = bind_ok (three_in fields) (λ n. register_of n.0 >>= λ r. need_of n.1 >>= λ need. Ok (Alloc r need n.2)) op e in
-    let r = bind_ok (register_of n.0.0) (λ r. need_of n.0.1 >>= λ need. Ok (Alloc r need n.0.2)) op n.2 in
-    let need = bind_ok (need_of n.0.1) (λ need. Ok (Alloc r.0 need n.0.2)) op r.2 in
-    let in_r = ranged_ok OutOfRange 0 (REGISTERS - 1) n.0.0 r.0 r.1 in
-    let in_need = ranged_ok OutOfRange 0 LARGE_MOST n.0.1 need.0 need.1 in
-    subst (IsNamed version) (ok_is (Alloc r.0 need.0 n.0.2) op need.2) ((omega (arith, in_r.1), in_need.1.1, three_ok fields n.0 n.1), tt)
-
-free_ok : (version : Version) (fields : List (List ℕ)) (op : Op) → free_in fields ≡ Ok op → IsNamed version op
-unfolding free_in
-free_ok version fields op e =
-    let n = bind_ok (one_in fields) (λ n. register_of n >>= λ r. Ok (Free r)) op e in
-    let r = bind_ok (register_of n.0) (λ r. Ok (Free r)) op n.2 in
-    let in_r = ranged_ok OutOfRange 0 (REGISTERS - 1) n.0 r.0 r.1 in
-    let below : r.0 < REGISTERS = omega (arith, in_r.1) in
-    subst (IsNamed version) (ok_is (Free r.0) op r.2) (below, tt)
-
-check_ok : (version : Version) (fields : List (List ℕ)) (op : Op) → check_in fields ≡ Ok op → IsNamed version op
-unfolding check_in
-check_ok version fields op e =
-    let n = bind_ok (one_in fields) (λ n. register_of n >>= λ r. Ok (Check r)) op e in
-    let r = bind_ok (register_of n.0) (λ r. Ok (Check r)) op n.2 in
-    let in_r = ranged_ok OutOfRange 0 (REGISTERS - 1) n.0 r.0 r.1 in
-    let below : r.0 < REGISTERS = omega (arith, in_r.1) in
-    subst (IsNamed version) (ok_is (Check r.0) op r.2) (below, tt)
-
-fill_ok : (version : Version) (fields : List (List ℕ)) (op : Op) → fill_in fields ≡ Ok op → IsNamed version op
-unfolding fill_in
-fill_ok version fields op e =
-    let n = bind_ok (two_in fields) (λ n. register_of n.0 >>= λ r. Ok (Fill r n.1)) op e in
-    let r = bind_ok (register_of n.0.0) (λ r. Ok (Fill r n.0.1)) op n.2 in
-    let in_r = ranged_ok OutOfRange 0 (REGISTERS - 1) n.0.0 r.0 r.1 in
-    subst (IsNamed version) (ok_is (Fill r.0 n.0.1) op r.2) ((omega (arith, in_r.1), two_ok fields n.0 n.1), tt)
-
-put_ok : (version : Version) (fields : List (List ℕ)) (op : Op) → put_in fields ≡ Ok op → IsNamed version op
-unfolding put_in
-put_ok version fields op e =
-    let n = bind_ok (two_in fields) (λ n. register_of n.0 >>= λ r. shelf_of n.1 >>= λ shelf. Ok (Put r shelf)) op e in
-    let r = bind_ok (register_of n.0.0) (λ r. shelf_of n.0.1 >>= λ shelf. Ok (Put r shelf)) op n.2 in
-    let shelf = bind_ok (shelf_of n.0.1) (λ shelf. Ok (Put r.0 shelf)) op r.2 in
-    let in_r = ranged_ok OutOfRange 0 (REGISTERS - 1) n.0.0 r.0 r.1 in
-    let in_shelf = ranged_ok OutOfRange 0 (SHELVES - 1) n.0.1 shelf.0 shelf.1 in
-    subst (IsNamed version) (ok_is (Put r.0 shelf.0) op shelf.2) ((omega (arith, in_r.1), omega (arith, in_shelf.1)), tt)
-
-take_ok : (version : Version) (fields : List (List ℕ)) (op : Op) → take_in fields ≡ Ok op → IsNamed version op
-unfolding take_in
-take_ok version fields op e =
-    let n = bind_ok (two_in fields) (λ n. register_of n.0 >>= λ r. shelf_of n.1 >>= λ shelf. Ok (Take r shelf)) op e in
-    let r = bind_ok (register_of n.0.0) (λ r. shelf_of n.0.1 >>= λ shelf. Ok (Take r shelf)) op n.2 in
-    let shelf = bind_ok (shelf_of n.0.1) (λ shelf. Ok (Take r.0 shelf)) op r.2 in
-    let in_r = ranged_ok OutOfRange 0 (REGISTERS - 1) n.0.0 r.0 r.1 in
-    let in_shelf = ranged_ok OutOfRange 0 (SHELVES - 1) n.0.1 shelf.0 shelf.1 in
-    subst (IsNamed version) (ok_is (Take r.0 shelf.0) op shelf.2) ((omega (arith, in_r.1), omega (arith, in_shelf.1)), tt)
-
-resize_ok : (fields : List (List ℕ)) (op : Op) → resize_in fields ≡ Ok op → IsNamed Two op
-unfolding resize_in
-resize_ok fields op e =
-    let n = bind_ok (two_in fields) (λ n. register_of n.0 >>= λ r. need_of n.1 >>= λ need. Ok (Resize r need)) op e in
-    let r = bind_ok (register_of n.0.0) (λ r. need_of n.0.1 >>= λ need. Ok (Resize r need)) op n.2 in
-    let need = bind_ok (need_of n.0.1) (λ need. Ok (Resize r.0 need)) op r.2 in
-    let in_r = ranged_ok OutOfRange 0 (REGISTERS - 1) n.0.0 r.0 r.1 in
-    let in_need = ranged_ok OutOfRange 0 LARGE_MOST n.0.1 need.0 need.1 in
-    subst (IsNamed Two) (ok_is (Resize r.0 need.0) op need.2) ((omega (arith, in_r.1), in_need.1.1), refl)
-
-op_ok : (version : Version) (word : List ℕ) (fields : List (List ℕ)) (op : Op) → op_in word fields ≡ Ok op → IsNamed version op
-unfolding op_in
-op_ok version word fields op e =
-    either (bytes_eq word (codes "a")) _ _ _ (IsNamed version op) e (alloc_ok version fields op)
-    (λ e. either (bytes_eq word (codes "f")) _ _ _ (IsNamed version op) e (free_ok version fields op)
-    (λ e. either (bytes_eq word (codes "w")) _ _ _ (IsNamed version op) e (fill_ok version fields op)
-    (λ e. either (bytes_eq word (codes "c")) _ _ _ (IsNamed version op) e (check_ok version fields op)
-    (λ e. either (bytes_eq word (codes "p")) _ _ _ (IsNamed version op) e (put_ok version fields op)
-    (λ e. either (bytes_eq word (codes "t")) _ _ _ (IsNamed version op) e (take_ok version fields op) (λ e. absurd cc))))))
-
 op_of_ok : (version : Version) (word : List ℕ) (fields : List (List ℕ)) (op : Op) → op_of version word fields ≡ Ok op → IsNamed version op
 unfolding op_of
-op_of_ok One word fields op e = op_ok One word fields op e
-op_of_ok Two word fields op e = either (bytes_eq word (codes "r")) _ _ _ (IsNamed Two op) e (resize_ok fields op) (op_ok Two word fields op)
+op_of_ok version [] fields op e = absurd cc
+op_of_ok version (letter ∷ next ∷ more) fields op e = absurd cc
+op_of_ok version (letter ∷ []) fields op e =
+    let read = op_by_read version (maker_of letter) fields op e in
+    let by = made_named version letter read.0 read.3 read.1 read.2 (numbers_ok (written_by read.0).kinds fields read.3 read.4) in
+    subst (IsNamed version) read.5 (by.0, by.1)
 
 pub order_ok : (lanes : List (List Op)) (fields : List (List ℕ)) (run : OrderRun) → order_in (length lanes) fields ≡ Ok run → IsOrder lanes run
 unfolding order_in

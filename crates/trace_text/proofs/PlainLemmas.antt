@@ -13,8 +13,10 @@ use Rattle.trace_text.specs.declared.fault.Cause.{Cause}
 use Rattle.trace_text.specs.declared.fault.Cause.TheVariants.{OutOfRange, UnknownOp, TooManyLanes}
 use Rattle.trace_text.specs.declared.stage.ReadingStage.{ReadingStage}
 use Rattle.trace_text.specs.declared.stage.ReadingStage.TheVariants.{Before, Inside, Ended}
+use Rattle.trace_text.specs.declared.kinds.Kinds.{Kinds}
+use Rattle.trace_text.specs.declared.kinds.Kinds.TheVariants as kinds
+use Rattle.trace_text.specs.declared.kinds.Numbers.{Numbers}
 use Rattle.trace_text.specs.declared.trace.Op.{Op}
-use Rattle.trace_text.specs.declared.trace.Op.TheVariants.{Alloc, Free, Fill, Check, Put, Take, Resize}
 use Rattle.trace_text.specs.declared.trace.OrderRun.{OrderRun}
 use Rattle.trace_text.specs.declared.trace.Trace.{Trace}
 use Rattle.trace_text.specs.declared.trace.Version.{Version}
@@ -22,11 +24,14 @@ use Rattle.trace_text.specs.declared.trace.Version.TheVariants.{One, Two}
 use Rattle.trace_text.specs.Causes.{◌>>=◌}
 use Rattle.trace_text.specs.Lines.{is_blank, is_plain, is_comment, has_bytes, fields_of}
 use Rattle.trace_text.specs.Numbers.{is_numeral, number_in}
-use Rattle.trace_text.specs.Said.{numeral_in, ranged, register_of, need_of, shelf_of, none_in, one_in, two_in, three_in, heap_numbers_in, limit_in, version_in, heap_in, alloc_in, free_in, fill_in, check_in, put_in, take_in, resize_in, op_in, op_of, order_in, with_lane, with_op, with_order, is_unordered, after_lane, after_order, after_end, after_op, after_inner, after_first, after_word, after_fields, after_line}
+use Rattle.trace_text.specs.Said.{numeral_in, ranged, none_in, one_in, two_in, three_in, heap_numbers_in, limit_in, version_in, heap_in, numbers_in, op_of, order_in, with_lane, with_op, with_order, is_unordered, after_lane, after_order, after_end, after_op, after_inner, after_first, after_word, after_fields, after_line}
+use Rattle.trace_text.specs.Operations.{maker_of, written_by}
 use Rattle.trace_text.specs.Traces.{heap_word}
 use Rattle.trace_text.proofs.LineLemmas.{parts_some}
-use Rattle.trace_text.proofs.NamedLemmas.{bind_ok, kept, numeral_some}
+use Rattle.trace_text.proofs.NamedLemmas.{bind_ok, kept, numeral_some, op_by_read}
 use Rattle.trace_text.proofs.NumberLemmas.{IsNumeral-from_test}
+use Rattle.trace_text.proofs.OperationLemmas.{letter_graphic}
+use Rattle.trace_text.proofs.PrintedLemmas.{is_graphic}
 
 -- plain bytes alone
 abbrev ArePlain : List (List ℕ) → Type 0
@@ -105,47 +110,11 @@ heap_plain (a ∷ b ∷ c ∷ d ∷ []) n e =
     (numeral_plain a x.0 x.1, (numeral_plain b y.0 y.1, (numeral_plain c z.0 z.1, (numeral_plain d w.0 w.1, tt))))
 heap_plain (a ∷ b ∷ c ∷ d ∷ x ∷ fields) n e = absurd cc
 
-alloc_plain : (fields : List (List ℕ)) (op : Op) → alloc_in fields ≡ Ok op → ArePlain fields
-unfolding alloc_in
-alloc_plain fields op e =
-    let n = bind_ok (three_in fields) (λ n. register_of n.0 >>= λ r. need_of n.1 >>= λ need. Ok (Alloc r need n.2)) op e in
-    three_plain fields n.0 n.1
-
-free_plain : (fields : List (List ℕ)) (op : Op) → free_in fields ≡ Ok op → ArePlain fields
-unfolding free_in
-free_plain fields op e =
-    let n = bind_ok (one_in fields) (λ n. register_of n >>= λ r. Ok (Free r)) op e in
-    one_plain fields n.0 n.1
-
-check_plain : (fields : List (List ℕ)) (op : Op) → check_in fields ≡ Ok op → ArePlain fields
-unfolding check_in
-check_plain fields op e =
-    let n = bind_ok (one_in fields) (λ n. register_of n >>= λ r. Ok (Check r)) op e in
-    one_plain fields n.0 n.1
-
-fill_plain : (fields : List (List ℕ)) (op : Op) → fill_in fields ≡ Ok op → ArePlain fields
-unfolding fill_in
-fill_plain fields op e =
-    let n = bind_ok (two_in fields) (λ n. register_of n.0 >>= λ r. Ok (Fill r n.1)) op e in
-    two_plain fields n.0 n.1
-
-put_plain : (fields : List (List ℕ)) (op : Op) → put_in fields ≡ Ok op → ArePlain fields
-unfolding put_in
-put_plain fields op e =
-    let n = bind_ok (two_in fields) (λ n. register_of n.0 >>= λ r. shelf_of n.1 >>= λ shelf. Ok (Put r shelf)) op e in
-    two_plain fields n.0 n.1
-
-take_plain : (fields : List (List ℕ)) (op : Op) → take_in fields ≡ Ok op → ArePlain fields
-unfolding take_in
-take_plain fields op e =
-    let n = bind_ok (two_in fields) (λ n. register_of n.0 >>= λ r. shelf_of n.1 >>= λ shelf. Ok (Take r shelf)) op e in
-    two_plain fields n.0 n.1
-
-resize_plain : (fields : List (List ℕ)) (op : Op) → resize_in fields ≡ Ok op → ArePlain fields
-unfolding resize_in
-resize_plain fields op e =
-    let n = bind_ok (two_in fields) (λ n. register_of n.0 >>= λ r. need_of n.1 >>= λ need. Ok (Resize r need)) op e in
-    two_plain fields n.0 n.1
+numbers_plain : (k : Kinds) (fields : List (List ℕ)) (n : Numbers) → numbers_in k fields ≡ Ok n → ArePlain fields
+unfolding numbers_in
+numbers_plain (kinds.One a) fields n e = let f = bind_ok (one_in fields) _ n e in one_plain fields f.0 f.1
+numbers_plain (kinds.Two a b) fields n e = let f = bind_ok (two_in fields) _ n e in two_plain fields f.0 f.1
+numbers_plain (kinds.Three a b c) fields n e = let f = bind_ok (three_in fields) _ n e in three_plain fields f.0 f.1
 
 order_plain : (lanes : ℕ) (fields : List (List ℕ)) (run : OrderRun) → order_in lanes fields ≡ Ok run → ArePlain fields
 unfolding order_in
@@ -168,20 +137,19 @@ by_word word text x y z fields e plain f g =
       | inr differs ↦ let gone : y ≡ z = rw differs at e in g gone
     ]
 
-op_plain : (word : List ℕ) (fields : List (List ℕ)) (op : Op) → op_in word fields ≡ Ok op → ArePlain (word ∷ fields)
-unfolding op_in
-op_plain word fields op e =
-    by_word word (codes "a") _ _ _ fields e refl (alloc_plain fields op)
-    (λ e. by_word word (codes "f") _ _ _ fields e refl (free_plain fields op)
-    (λ e. by_word word (codes "w") _ _ _ fields e refl (fill_plain fields op)
-    (λ e. by_word word (codes "c") _ _ _ fields e refl (check_plain fields op)
-    (λ e. by_word word (codes "p") _ _ _ fields e refl (put_plain fields op)
-    (λ e. by_word word (codes "t") _ _ _ fields e refl (take_plain fields op) (λ e. absurd cc))))))
+letter_plain : (letter : ℕ) → is_graphic letter ≡ true → list_all is_plain (letter ∷ []) ≡ true
+letter_plain letter e =
+    let both = and_parts (leb 33 letter) (leb letter 126) e in
+    let low = leb-true 33 letter both.0 in
+    rw (ne_eqb letter 9 (λ is. absurd (omega (arith, low, is))), le-leb 32 letter (omega (arith, low)), both.1) refl
 
 op_of_plain : (version : Version) (word : List ℕ) (fields : List (List ℕ)) (op : Op) → op_of version word fields ≡ Ok op → ArePlain (word ∷ fields)
 unfolding op_of
-op_of_plain One word fields op e = op_plain word fields op e
-op_of_plain Two word fields op e = by_word word (codes "r") _ _ _ fields e refl (resize_plain fields op) (op_plain word fields op)
+op_of_plain version [] fields op e = absurd cc
+op_of_plain version (letter ∷ next ∷ more) fields op e = absurd cc
+op_of_plain version (letter ∷ []) fields op e =
+    let read = op_by_read version (maker_of letter) fields op e in
+    (letter_plain letter (letter_graphic letter read.0 read.1), numbers_plain (written_by read.0).kinds fields read.3 read.4)
 
 after_lane_plain : (trace : Trace) (fields : List (List ℕ)) (next : ReadingStage) → after_lane trace fields ≡ Ok next → ArePlain fields
 unfolding after_lane

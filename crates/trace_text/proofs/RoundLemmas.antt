@@ -1,31 +1,36 @@
 -- A printed trace is read again.
-use Rattle.std.proofs.Common.{◌≡◌, ℕ, ◌-◌, ◌^◌, ◌<◌, ◌≤◌, ◌⊎◌, max, true, false, List, [], ◌∷◌, ◌++◌, length, Ok, refl, sym, ap, ◌∙◌, subst, append_assoc, append-nil, length-append, arith, inl, inr}
+use Rattle.std.proofs.Common.{◌≡◌, ℕ, ◌^◌, ◌<◌, ◌≤◌, ◌⊎◌, max, true, false, eqb, List, [], ◌∷◌, ◌++◌, length, Some, Ok, refl, sym, ap, ◌∙◌, subst, append_assoc, append-nil, length-append, arith, inl, inr}
 use Rattle.std.specs.Prelude.{codes}
 use Rattle.std.specs.Fmt.{decimal}
 use Rattle.std.specs.List.{All, flat_map}
 use Rattle.std.specs.Str.{bytes_eq}
 use Rattle.std.proofs.lemmas.Bool.{cases_Bool, false≢true, lt-ltb, le-leb, eq-eqb}
 use Rattle.std.proofs.lemmas.List.Elements.{All-head, All-tail}
-use Rattle.heap_geometry.specs.declared.limits.TheConstants.{MAX_FRAMES, MAX_HEAPS, MAX_UNITS, MAX_TURNS, LARGE_MOST, SHELVES}
-use Rattle.trace_text.specs.declared.limits.TheConstants.{REGISTERS, MAX_LANES, ORDER_MOST}
+use Rattle.heap_geometry.specs.declared.limits.TheConstants.{MAX_FRAMES, MAX_HEAPS, MAX_UNITS, MAX_TURNS}
+use Rattle.trace_text.specs.declared.limits.TheConstants.{COMMENT, MAX_LANES, ORDER_MOST}
 use Rattle.trace_text.specs.declared.fault.Cause.{Cause}
 use Rattle.trace_text.specs.declared.fault.Cause.TheVariants.{BadGeometry, OutOfRange}
 use Rattle.trace_text.specs.declared.stage.ReadingStage.{ReadingStage}
 use Rattle.trace_text.specs.declared.stage.ReadingStage.TheVariants.{Before, Inside, Ended}
+use Rattle.trace_text.specs.declared.kinds.Kind.{Kind}
+use Rattle.trace_text.specs.declared.kinds.Kinds.{Kinds}
+use Rattle.trace_text.specs.declared.kinds.Kinds.TheVariants as kinds
+use Rattle.trace_text.specs.declared.kinds.Numbers.{Numbers}
 use Rattle.trace_text.specs.declared.trace.Op.{Op}
-use Rattle.trace_text.specs.declared.trace.Op.TheVariants.{Alloc, Free, Fill, Check, Put, Take, Resize}
 use Rattle.trace_text.specs.declared.trace.OrderRun.{OrderRun}
 use Rattle.trace_text.specs.declared.trace.Trace.{Trace}
 use Rattle.trace_text.specs.declared.trace.Version.{Version}
 use Rattle.trace_text.specs.declared.trace.Version.TheVariants.{One, Two}
 use Rattle.trace_text.specs.Lines.{lines_of, is_comment}
+use Rattle.trace_text.specs.Operations.{Maker, Written, written_of, written_by, made_by, maker_of, most_of, is_since, IsKind, AreWithin, decimals}
 use Rattle.trace_text.specs.Reading.{Reading, Read, at_end, reading_from, reading_up_to, reading_of}
-use Rattle.trace_text.specs.Said.{numeral_in, ranged, register_of, need_of, shelf_of, one_in, two_in, three_in, heap_numbers_in, version_in, heap_in, alloc_in, free_in, fill_in, check_in, put_in, take_in, resize_in, op_in, op_of, order_in, last_with, with_lane, with_op, with_order, after_lane, after_order, after_end, after_op, after_inner, after_first, after_word, after_fields}
+use Rattle.trace_text.specs.Said.{numeral_in, ranged, kind_of, one_in, two_in, three_in, heap_numbers_in, version_in, heap_in, numbers_in, op_by, op_of, order_in, last_with, with_lane, with_op, with_order, after_lane, after_order, after_end, after_op, after_inner, after_first, after_word, after_fields}
 use Rattle.trace_text.specs.Text.{line, limit_fields, heap_fields, op_fields, op_line, lane_line, lane_lines, order_line, end_line, canonical_of}
 use Rattle.trace_text.specs.Traces.{heap_word, IsOp, IsAllowed, IsOrder, IsTrace, callers_of}
 use Rattle.trace_text.proofs.LawLemmas.{read_is}
 use Rattle.trace_text.proofs.LineLemmas.{no_lines}
 use Rattle.trace_text.proofs.NumberLemmas.{number_again}
+use Rattle.trace_text.proofs.OperationLemmas.{cut, kind_most, kind_small, maker, made_as, since_test, no_comment, op_are_fields, op_some}
 use Rattle.trace_text.proofs.PrintedLemmas.{IsField, AreFields, ReadsTo, reads_line, IsField-decimal}
 use Rattle.trace_text.proofs.StageLemmas.{last_with-append}
 
@@ -39,42 +44,10 @@ ranged_again cause low high n above below = rw (le-leb low n above, le-leb n hig
 
 -- ---- each line's fields are fields
 
-are_one : (name : List ℕ) (a : ℕ) → IsField name → a < 2 ^ 64 → AreFields (name ∷ decimal a ∷ [])
-are_one name a h x = (h, (IsField-decimal a x, tt))
-
 are_two : (name : List ℕ) (a b : ℕ) → IsField name → a < 2 ^ 64 → b < 2 ^ 64 → AreFields (name ∷ decimal a ∷ decimal b ∷ [])
 are_two name a b h x y = (h, (IsField-decimal a x, (IsField-decimal b y, tt)))
 
-are_three : (name : List ℕ) (a b c : ℕ) → IsField name → a < 2 ^ 64 → b < 2 ^ 64 → c < 2 ^ 64 → AreFields (name ∷ decimal a ∷ decimal b ∷ decimal c ∷ [])
-are_three name a b c h x y z = (h, (IsField-decimal a x, (IsField-decimal b y, (IsField-decimal c z, tt))))
-
-pub op_are_fields : (op : Op) → IsOp op → AreFields (op_fields op)
-unfolding op_fields
-op_are_fields (Alloc r need v) h = are_three (codes "a") r need v (record { some = refl; graphic = refl }) (omega (arith, h.0)) (omega (arith, h.1)) h.2
-op_are_fields (Free r) h = are_one (codes "f") r (record { some = refl; graphic = refl }) (omega arith)
-op_are_fields (Fill r v) h = are_two (codes "w") r v (record { some = refl; graphic = refl }) (omega (arith, h.0)) h.1
-op_are_fields (Check r) h = are_one (codes "c") r (record { some = refl; graphic = refl }) (omega arith)
-op_are_fields (Put r shelf) h = are_two (codes "p") r shelf (record { some = refl; graphic = refl }) (omega (arith, h.0)) (omega (arith, h.1))
-op_are_fields (Take r shelf) h = are_two (codes "t") r shelf (record { some = refl; graphic = refl }) (omega (arith, h.0)) (omega (arith, h.1))
-op_are_fields (Resize r need) h = are_two (codes "r") r need (record { some = refl; graphic = refl }) (omega (arith, h.0)) (omega (arith, h.1))
-
-pub op_some : (op : Op) → 0 < length (op_fields op)
-unfolding op_fields
-op_some (Alloc r need v) = omega arith
-op_some (Free r) = omega arith
-op_some (Fill r v) = omega arith
-op_some (Check r) = omega arith
-op_some (Put r shelf) = omega arith
-op_some (Take r shelf) = omega arith
-op_some (Resize r need) = omega arith
-
 -- ---- what each printed line says
-
-register_again : (r : ℕ) → r < REGISTERS → register_of r ≡ Ok r
-register_again r below = ranged_again OutOfRange 0 (REGISTERS - 1) r (omega arith) (omega arith)
-
-shelf_again : (shelf : ℕ) → shelf < SHELVES → shelf_of shelf ≡ Ok shelf
-shelf_again shelf below = ranged_again OutOfRange 0 (SHELVES - 1) shelf (omega arith) (omega arith)
 
 one_again : (a : ℕ) → a < 2 ^ 64 → one_in (decimal a ∷ []) ≡ Ok a
 unfolding one_in
@@ -88,85 +61,60 @@ three_again : (a b c : ℕ) → a < 2 ^ 64 → b < 2 ^ 64 → c < 2 ^ 64 → thr
 unfolding three_in
 three_again a b c x y z = rw (numeral_again a x, numeral_again b y, numeral_again c z) refl
 
-need_again : (need : ℕ) → need ≤ LARGE_MOST → need_of need ≡ Ok need
-need_again need few = ranged_again OutOfRange 0 LARGE_MOST need (omega arith) few
+kind_again : (a : Kind) (n : ℕ) → IsKind a n → kind_of a n ≡ Ok n
+kind_again a n h = ranged_again OutOfRange 0 (most_of a) n (omega arith) (kind_most a n h)
 
--- an operation whose word is not `r` is the same in every version
-op_of-common : (version : Version) (word : List ℕ) (fields : List (List ℕ)) → bytes_eq word (codes "r") ≡ false → op_of version word fields ≡ op_in word fields
-unfolding op_of
-op_of-common One word fields e = refl
-op_of-common Two word fields e = rw e refl
+numbers_again : (k : Kinds) (n : Numbers) → AreWithin k n → numbers_in k (decimals k n) ≡ Ok (cut k n)
+unfolding numbers_in
+numbers_again (kinds.One a) n h = rw (one_again n.first (kind_small a n.first h), kind_again a n.first h) refl
+numbers_again (kinds.Two a b) n h =
+    rw (two_again n.first n.second (kind_small a n.first h.0) (kind_small b n.second h.1), kind_again a n.first h.0, kind_again b n.second h.1) refl
+numbers_again (kinds.Three a b c) n h =
+    rw (
+      three_again n.first n.second n.third (kind_small a n.first h.0) (kind_small b n.second h.1) (kind_small c n.third h.2),
+      kind_again a n.first h.0,
+      kind_again b n.second h.1,
+      kind_again c n.third h.2,
+    ) refl
 
-op_of-resize : (version : Version) (fields : List (List ℕ)) → version ≡ Two → op_of version (codes "r") fields ≡ resize_in fields
-unfolding op_of
-op_of-resize One fields e = absurd cc
-op_of-resize Two fields e = refl
+by_maker :
+    (version : Version) (maker : Maker) (fields : List (List ℕ)) (n : Numbers) → is_since (written_by maker).since version ≡ true → numbers_in (written_by maker).kinds fields ≡ Ok n
+    → op_by version (Some maker) fields ≡ Ok (made_by maker n)
+unfolding op_by
+by_maker version maker fields n since e = rw (since, e) refl
+
+-- the letter of an operation, and the numbers behind it, say the operation
+op_again : (version : Version) (op : Op) → IsOp op → IsAllowed version op → op_by version (maker_of (written_of op).letter) (decimals (written_of op).kinds (written_of op).numbers) ≡ Ok op
+op_again version op h allowed =
+    let w = written_of op in
+    let by = maker op in
+    let is : w ≡ record (written_by by.0) { numbers = cut (written_by by.0).kinds w.numbers } = ap written_of (sym by.2) ∙ (made_as w.letter w.numbers by.0 by.1).1 in
+    let same : (written_by by.0).kinds ≡ w.kinds = sym (ap (λ (w : Written). w.kinds) is) in
+    let since : is_since (written_by by.0).since version ≡ true = subst (λ since. is_since since version ≡ true) (ap (λ (w : Written). w.since) is) (since_test w.since version allowed) in
+    let numbers : w.numbers ≡ cut w.kinds w.numbers = ap (λ (w : Written). w.numbers) is ∙ ap (λ k. cut k w.numbers) same in
+    let read : numbers_in (written_by by.0).kinds (decimals w.kinds w.numbers) ≡ Ok w.numbers =
+    ap (λ k. numbers_in k (decimals w.kinds w.numbers)) same ∙ numbers_again w.kinds w.numbers h ∙ ap (λ n. Ok n) (sym numbers) in
+    ap (λ o. op_by version o (decimals w.kinds w.numbers)) by.1 ∙ by_maker version by.0 (decimals w.kinds w.numbers) w.numbers since read ∙ ap (λ op. Ok op) by.2
+
+-- a line of one letter, which begins no comment, is an operation
+letter_after :
+    (trace : Trace) (letter : ℕ) (fields : List (List ℕ)) (op : Op) → eqb letter COMMENT ≡ false → op_by trace.version (maker_of letter) fields ≡ Ok op
+    → 0 < length trace.lanes → length trace.orders ≡ 0 → after_fields Two (Inside trace) ((letter ∷ []) ∷ fields) ≡ Ok (Inside (with_op trace op))
+unfolding after_fields after_word after_inner after_op op_of
+letter_after trace letter fields op line said some none =
+    rw (line, one_word letter 108 (97 ∷ 110 ∷ 101 ∷ []) (omega arith), one_word letter 111 (114 ∷ 100 ∷ 101 ∷ 114 ∷ []) (omega arith), one_word letter 101 (110 ∷ 100 ∷ []) (omega arith), lt-ltb 0 (length trace.lanes) some, eq-eqb (length trace.orders) 0 none, said) refl
+  where
+    one_word : (letter b : ℕ) (more : List ℕ) → 0 < length more → bytes_eq (letter ∷ []) (b ∷ more) ≡ false
+    one_word letter b [] longer = absurd (omega (arith, longer))
+    one_word letter b (c ∷ more) longer = elim (cases_Bool (eqb letter b)) [ inl same ↦ rw same refl | inr other ↦ rw other refl ]
 
 -- the line of an operation, in a lane, leads to the trace with that operation more
 pub op_after :
     (trace : Trace) (op : Op) → IsOp op → IsAllowed trace.version op → 0 < length trace.lanes → length trace.orders ≡ 0
     → after_fields Two (Inside trace) (op_fields op) ≡ Ok (Inside (with_op trace op))
-unfolding op_fields after_fields after_word after_inner after_op op_in alloc_in free_in fill_in check_in put_in take_in resize_in
-op_after trace (Alloc r need v) h allowed some none =
-    rw (
-      lt-ltb 0 (length trace.lanes) some,
-      eq-eqb (length trace.orders) 0 none,
-      op_of-common trace.version (codes "a") _ refl,
-      three_again r need v (omega (arith, h.0)) (omega (arith, h.1)) h.2,
-      register_again r h.0,
-      need_again need h.1,
-    ) refl
-op_after trace (Free r) h allowed some none =
-    rw (
-      lt-ltb 0 (length trace.lanes) some,
-      eq-eqb (length trace.orders) 0 none,
-      op_of-common trace.version (codes "f") _ refl,
-      one_again r (omega arith),
-      register_again r h,
-    ) refl
-op_after trace (Fill r v) h allowed some none =
-    rw (
-      lt-ltb 0 (length trace.lanes) some,
-      eq-eqb (length trace.orders) 0 none,
-      op_of-common trace.version (codes "w") _ refl,
-      two_again r v (omega (arith, h.0)) h.1,
-      register_again r h.0,
-    ) refl
-op_after trace (Check r) h allowed some none =
-    rw (
-      lt-ltb 0 (length trace.lanes) some,
-      eq-eqb (length trace.orders) 0 none,
-      op_of-common trace.version (codes "c") _ refl,
-      one_again r (omega arith),
-      register_again r h,
-    ) refl
-op_after trace (Put r shelf) h allowed some none =
-    rw (
-      lt-ltb 0 (length trace.lanes) some,
-      eq-eqb (length trace.orders) 0 none,
-      op_of-common trace.version (codes "p") _ refl,
-      two_again r shelf (omega (arith, h.0)) (omega (arith, h.1)),
-      register_again r h.0,
-      shelf_again shelf h.1,
-    ) refl
-op_after trace (Take r shelf) h allowed some none =
-    rw (
-      lt-ltb 0 (length trace.lanes) some,
-      eq-eqb (length trace.orders) 0 none,
-      op_of-common trace.version (codes "t") _ refl,
-      two_again r shelf (omega (arith, h.0)) (omega (arith, h.1)),
-      register_again r h.0,
-      shelf_again shelf h.1,
-    ) refl
-op_after trace (Resize r need) h allowed some none =
-    rw (
-      lt-ltb 0 (length trace.lanes) some,
-      eq-eqb (length trace.orders) 0 none,
-      op_of-resize trace.version _ allowed,
-      two_again r need (omega (arith, h.0)) (omega (arith, h.1)),
-      register_again r h.0,
-      need_again need h.1,
-    ) refl
+unfolding op_fields
+op_after trace op h allowed some none =
+    letter_after trace (written_of op).letter (decimals (written_of op).kinds (written_of op).numbers) op (no_comment op) (op_again trace.version op h allowed) some none
 
 lane_after : (trace : Trace) → length trace.orders ≡ 0 → length trace.lanes < MAX_LANES → after_fields Two (Inside trace) (codes "lane" ∷ []) ≡ Ok (Inside (with_lane trace))
 unfolding after_fields after_word after_inner after_lane
@@ -194,9 +142,9 @@ unfolding version_in
 version_again One = refl
 version_again Two = refl
 
-no_comment : (version : Version) → is_comment (heap_word version) ≡ false
-no_comment One = refl
-no_comment Two = refl
+no_comment_word : (version : Version) → is_comment (heap_word version) ≡ false
+no_comment_word One = refl
+no_comment_word Two = refl
 
 word_is_field : (version : Version) → IsField (heap_word version)
 word_is_field One = record { some = refl; graphic = refl }
@@ -214,7 +162,7 @@ heap_after t is =
     elim (cases_Bool t.named_limit) [
       | inl named ↦
           rw (
-            no_comment t.version,
+            no_comment_word t.version,
             version_again t.version,
             named,
             numeral_again t.heap.frames (omega (arith, is.heap.frames)),
@@ -229,7 +177,7 @@ heap_after t is =
       | inr unnamed ↦
           let limit : t.heap.turn_limit ≡ MAX_TURNS = unnamed_limit t is.turn_limit unnamed in
           rw (
-            no_comment t.version,
+            no_comment_word t.version,
             version_again t.version,
             unnamed,
             numeral_again t.heap.frames (omega (arith, is.heap.frames)),

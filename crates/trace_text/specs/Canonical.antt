@@ -3,10 +3,13 @@ use Rattle.std.specs.Prelude.{◌≡◌, ℕ, ◌<◌, ◌≤◌, ◌-◌, ◌^�
 use Rattle.std.specs.Fmt.{decimal}
 use Rattle.std.specs.List.{All, flat_map}
 use Rattle.trace_text.specs.declared.limits.TheConstants.{LINE_FEED}
+use Rattle.trace_text.specs.declared.kinds.Kinds.{Kinds}
+use Rattle.trace_text.specs.declared.kinds.Numbers.{Numbers}
 use Rattle.trace_text.specs.declared.trace.Op.{Op}
 use Rattle.trace_text.specs.declared.trace.Version.{Version}
 use Rattle.trace_text.specs.Said.{last_with}
-use Rattle.trace_text.specs.Text.{op_line}
+use Rattle.trace_text.specs.Operations.{AreWithin, decimals}
+use Rattle.trace_text.specs.Text.{line, op_line}
 use Rattle.trace_text.specs.Traces.{IsOp, IsAllowed}
 
 -- the last byte of a text ends a line
@@ -19,6 +22,13 @@ pub record IsNumberAt (text : List ℕ) (start end n after : ℕ) : Type 0 where
   pub later : start < after
   pub within : after ≤ length text
   pub spelled : drop start text ≡ decimal n ++ end ∷ drop after text
+
+-- numbers of these kinds stand from one place on, up to another that is behind the line's end
+pub record AreNumbersAt (kinds : Kinds) (text : List ℕ) (start : ℕ) (n : Numbers) (after : ℕ) : Type 0 where
+  pub kind : AreWithin kinds n
+  pub later : start < after
+  pub within : after ≤ length text
+  pub spelled : drop start text ≡ line (decimals kinds n) ++ drop after text
 
 -- with these bytes before it a text is, from one place up to another, the line of an operation of this version
 pub record IsOpAt (version : Version) (before text : List ℕ) (start : ℕ) (op : Op) (after : ℕ) : Type 0 where

@@ -2,6 +2,7 @@ pub mod Canonical
 pub mod Causes
 pub mod Lines
 pub mod Numbers
+pub mod Operations
 pub mod Reading
 pub mod Said
 pub mod Stages

@@ -1,13 +1,16 @@
 -- What one line says at its place in the text, and the trace after it.
-use Rattle.std.specs.Prelude.{ℕ, ◌-◌, Bool, ◌&&◌, ◌==◌, nat_le, nat_lt, if◌then◌else◌, List, [], ◌∷◌, ◌++◌, length, codes, Option, Some, None, is_some, unwrap_or, Result, Ok, Err, ok_or}
+use Rattle.std.specs.Prelude.{ℕ, Bool, ◌&&◌, ◌==◌, nat_le, nat_lt, if◌then◌else◌, List, [], ◌∷◌, ◌++◌, length, codes, Option, Some, None, is_some, unwrap_or, Result, Ok, Err, ok_or}
 use Rattle.std.specs.List.{list_all}
 use Rattle.std.specs.Str.{bytes_eq}
-use Rattle.heap_geometry.specs.declared.limits.TheConstants.{MAX_FRAMES, MAX_HEAPS, MAX_UNITS, MAX_TURNS, LARGE_MOST, SHELVES}
-use Rattle.trace_text.specs.declared.limits.TheConstants.{REGISTERS, MAX_LANES, ORDER_MOST}
+use Rattle.heap_geometry.specs.declared.limits.TheConstants.{MAX_FRAMES, MAX_HEAPS, MAX_UNITS, MAX_TURNS}
+use Rattle.trace_text.specs.declared.limits.TheConstants.{MAX_LANES, ORDER_MOST}
 use Rattle.trace_text.specs.declared.fault.Cause.{Cause}
 use Rattle.trace_text.specs.declared.fault.Cause.TheVariants.{NotAscii, NoHeapLine, BadGeometry, UnknownOp, WrongFields, BadNumber, OutOfRange, TooManyLanes}
+use Rattle.trace_text.specs.declared.kinds.Kind.{Kind}
+use Rattle.trace_text.specs.declared.kinds.Kinds.{Kinds}
+use Rattle.trace_text.specs.declared.kinds.Kinds.TheVariants as kinds
+use Rattle.trace_text.specs.declared.kinds.Numbers.{Numbers}
 use Rattle.trace_text.specs.declared.trace.Op.{Op}
-use Rattle.trace_text.specs.declared.trace.Op.TheVariants.{Alloc, Free, Fill, Check, Put, Take, Resize}
 use Rattle.trace_text.specs.declared.trace.OrderRun.{OrderRun}
 use Rattle.trace_text.specs.declared.trace.Trace.{Trace}
 use Rattle.trace_text.specs.declared.trace.Version.{Version}
@@ -17,6 +20,7 @@ use Rattle.trace_text.specs.declared.stage.ReadingStage.TheVariants.{Before, Ins
 use Rattle.trace_text.specs.Causes.{◌>>=◌}
 use Rattle.trace_text.specs.Lines.{fields_of, is_plain, is_comment}
 use Rattle.trace_text.specs.Numbers.{number_in}
+use Rattle.trace_text.specs.Operations.{Maker, is_since, made_by, maker_of, most_of, written_by}
 use Rattle.trace_text.specs.Traces.{heap_word, callers_of}
 
 -- a field as a number
@@ -31,17 +35,9 @@ ranged cause low high n = if nat_le low n && nat_le n high then Ok n else Err ca
 abbrev pub up_to : ℕ → ℕ → Result ℕ Cause
 up_to most n = ranged OutOfRange 0 most n
 
--- the register of a number
-abbrev pub register_of : ℕ → Result ℕ Cause
-register_of n = up_to (REGISTERS - 1) n
-
--- the need of a number
-abbrev pub need_of : ℕ → Result ℕ Cause
-need_of n = up_to LARGE_MOST n
-
--- the shelf of a number
-abbrev pub shelf_of : ℕ → Result ℕ Cause
-shelf_of n = up_to (SHELVES - 1) n
+-- a number of an operation that says something of this kind
+abbrev pub kind_of : Kind → ℕ → Result ℕ Cause
+kind_of kind n = up_to (most_of kind) n
 
 -- at least one field behind the word
 abbrev pub some_in : List (List ℕ) → Result (List (List ℕ)) Cause
@@ -119,74 +115,37 @@ heap_in version fields = do
     orders = [];
   })
 
--- the allocation that the fields `R N V` say
-unfoldable pub alloc_in : List (List ℕ) → Result Op Cause
-alloc_in fields = do
+-- the numbers of these kinds that are the fields behind the word
+unfoldable pub numbers_in : Kinds → List (List ℕ) → Result Numbers Cause
+numbers_in (kinds.One a) fields = do
+  n ← one_in fields
+  x ← kind_of a n
+  Ok (record { first = x; second = 0; third = 0 })
+numbers_in (kinds.Two a b) fields = do
+  n ← two_in fields
+  x ← kind_of a n.0
+  y ← kind_of b n.1
+  Ok (record { first = x; second = y; third = 0 })
+numbers_in (kinds.Three a b c) fields = do
   n ← three_in fields
-  r ← register_of n.0
-  need ← need_of n.1
-  Ok (Alloc r need n.2)
+  x ← kind_of a n.0
+  y ← kind_of b n.1
+  z ← kind_of c n.2
+  Ok (record { first = x; second = y; third = z })
 
--- the free that the field `R` says
-unfoldable pub free_in : List (List ℕ) → Result Op Cause
-free_in fields = do
-  n ← one_in fields
-  r ← register_of n
-  Ok (Free r)
+-- the operation of a maker that a line in a lane says in a text of this version
+unfoldable pub op_by : Version → Option Maker → List (List ℕ) → Result Op Cause
+op_by version None fields = Err UnknownOp
+op_by version (Some maker) fields =
+    if is_since (written_by maker).since version
+    then (numbers_in (written_by maker).kinds fields >>= λ n. Ok (made_by maker n))
+    else Err UnknownOp
 
--- the fill that the fields `R V` say
-unfoldable pub fill_in : List (List ℕ) → Result Op Cause
-fill_in fields = do
-  n ← two_in fields
-  r ← register_of n.0
-  Ok (Fill r n.1)
-
--- the sum that the field `R` says
-unfoldable pub check_in : List (List ℕ) → Result Op Cause
-check_in fields = do
-  n ← one_in fields
-  r ← register_of n
-  Ok (Check r)
-
--- the put that the fields `R S` say
-unfoldable pub put_in : List (List ℕ) → Result Op Cause
-put_in fields = do
-  n ← two_in fields
-  r ← register_of n.0
-  shelf ← shelf_of n.1
-  Ok (Put r shelf)
-
--- the take that the fields `R S` say
-unfoldable pub take_in : List (List ℕ) → Result Op Cause
-take_in fields = do
-  n ← two_in fields
-  r ← register_of n.0
-  shelf ← shelf_of n.1
-  Ok (Take r shelf)
-
--- the resize that the fields `R N` say
-unfoldable pub resize_in : List (List ℕ) → Result Op Cause
-resize_in fields = do
-  n ← two_in fields
-  r ← register_of n.0
-  need ← need_of n.1
-  Ok (Resize r need)
-
--- the operation that a line in a lane says in every version
-unfoldable pub op_in : List ℕ → List (List ℕ) → Result Op Cause
-op_in word fields =
-    if bytes_eq word (codes "a") then alloc_in fields
-    else (if bytes_eq word (codes "f") then free_in fields
-    else (if bytes_eq word (codes "w") then fill_in fields
-    else (if bytes_eq word (codes "c") then check_in fields
-    else (if bytes_eq word (codes "p") then put_in fields
-    else (if bytes_eq word (codes "t") then take_in fields
-    else Err UnknownOp)))))
-
--- the operation that a line in a lane says in a text of this version
+-- the operation that a line in a lane says in a text of this version: its word is one letter
 unfoldable pub op_of : Version → List ℕ → List (List ℕ) → Result Op Cause
-op_of One word fields = op_in word fields
-op_of Two word fields = if bytes_eq word (codes "r") then resize_in fields else op_in word fields
+op_of version [] fields = Err UnknownOp
+op_of version (letter ∷ []) fields = op_by version (maker_of letter) fields
+op_of version (letter ∷ next ∷ more) fields = Err UnknownOp
 
 -- the order run that an order line says, where there are so many lanes
 unfoldable pub order_in : ℕ → List (List ℕ) → Result OrderRun Cause

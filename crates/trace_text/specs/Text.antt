@@ -4,9 +4,9 @@ use Rattle.std.specs.List.{flat_map, join_with_byte}
 use Rattle.std.specs.Fmt.{decimal}
 use Rattle.trace_text.specs.declared.limits.TheConstants.{SPACE, LINE_FEED}
 use Rattle.trace_text.specs.declared.trace.Op.{Op}
-use Rattle.trace_text.specs.declared.trace.Op.TheVariants.{Alloc, Free, Fill, Check, Put, Take, Resize}
 use Rattle.trace_text.specs.declared.trace.OrderRun.{OrderRun}
 use Rattle.trace_text.specs.declared.trace.Trace.{Trace}
+use Rattle.trace_text.specs.Operations.{decimals, written_of}
 use Rattle.trace_text.specs.Traces.{heap_word}
 
 -- a line: its fields parted by one space, and one line feed
@@ -24,13 +24,7 @@ heap_fields trace =
 
 -- the fields of an operation
 unfoldable pub op_fields : Op → List (List ℕ)
-op_fields (Alloc r need v) = codes "a" ∷ decimal r ∷ decimal need ∷ decimal v ∷ []
-op_fields (Free r) = codes "f" ∷ decimal r ∷ []
-op_fields (Fill r v) = codes "w" ∷ decimal r ∷ decimal v ∷ []
-op_fields (Check r) = codes "c" ∷ decimal r ∷ []
-op_fields (Put r shelf) = codes "p" ∷ decimal r ∷ decimal shelf ∷ []
-op_fields (Take r shelf) = codes "t" ∷ decimal r ∷ decimal shelf ∷ []
-op_fields (Resize r need) = codes "r" ∷ decimal r ∷ decimal need ∷ []
+op_fields op = ((written_of op).letter ∷ []) ∷ decimals (written_of op).kinds (written_of op).numbers
 
 -- the line of an operation
 abbrev pub op_line : Op → List ℕ

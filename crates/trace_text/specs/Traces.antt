@@ -1,15 +1,15 @@
 -- The traces that texts name.
-use Rattle.std.specs.Prelude.{◌≡◌, ℕ, ◌<◌, ◌≤◌, ◌^◌, ◌⊎◌, List, codes, length, max, true}
+use Rattle.std.specs.Prelude.{◌≡◌, ℕ, ◌<◌, ◌≤◌, ◌⊎◌, List, codes, length, max, true}
 use Rattle.std.specs.List.{All}
 use Rattle.heap_geometry.specs.Geometry.{IsChecked, IsWithin}
-use Rattle.heap_geometry.specs.declared.limits.TheConstants.{LARGE_MOST, MAX_TURNS, SHELVES}
-use Rattle.trace_text.specs.declared.limits.TheConstants.{REGISTERS, MAX_LANES, ORDER_MOST}
+use Rattle.heap_geometry.specs.declared.limits.TheConstants.{MAX_TURNS}
+use Rattle.trace_text.specs.declared.limits.TheConstants.{MAX_LANES, ORDER_MOST}
 use Rattle.trace_text.specs.declared.trace.Op.{Op}
-use Rattle.trace_text.specs.declared.trace.Op.TheVariants.{Alloc, Free, Fill, Check, Put, Take, Resize}
 use Rattle.trace_text.specs.declared.trace.OrderRun.{OrderRun}
 use Rattle.trace_text.specs.declared.trace.Trace.{Trace}
 use Rattle.trace_text.specs.declared.trace.Version.{Version}
 use Rattle.trace_text.specs.declared.trace.Version.TheVariants.{One, Two}
+use Rattle.trace_text.specs.Operations.{AreWithin, IsSince, written_of}
 
 -- the word that begins the heap line of a trace of this version
 abbrev pub heap_word : Version → List ℕ
@@ -18,18 +18,11 @@ heap_word Two = codes "heap2"
 
 -- the numbers of an operation are in their ranges
 abbrev pub IsOp : Op → Type 0
-IsOp (Alloc r need v) = (r < REGISTERS) × (need ≤ LARGE_MOST) × (v < 2 ^ 64)
-IsOp (Free r) = r < REGISTERS
-IsOp (Fill r v) = (r < REGISTERS) × (v < 2 ^ 64)
-IsOp (Check r) = r < REGISTERS
-IsOp (Put r shelf) = (r < REGISTERS) × (shelf < SHELVES)
-IsOp (Take r shelf) = (r < REGISTERS) × (shelf < SHELVES)
-IsOp (Resize r need) = (r < REGISTERS) × (need ≤ LARGE_MOST)
+IsOp op = AreWithin (written_of op).kinds (written_of op).numbers
 
--- a trace of this version may have the operation: a resize came with version 2
+-- a trace of this version may have the operation
 abbrev pub IsAllowed : Version → Op → Type 0
-IsAllowed version (Resize r need) = version ≡ Two
-IsAllowed version op = Unit {0}
+IsAllowed version op = IsSince (written_of op).since version
 
 -- an order run names one of the lanes, and some steps
 abbrev pub IsOrder : List (List Op) → OrderRun → Type 0

@@ -1,18 +1,17 @@
 //! The lines of operations as they are printed, read where they stand in a text.
 
-ghost use Rattle.std.specs.Prelude.{◌≡◌, ◌≢◌, ◌++◌, ◌∷◌, ◌+◌, ◌-◌, ◌<◌, ◌≤◌, List, [], codes, drop, length, slice_index, take, true, IfOk, IfSome, IsTrue};
+ghost use Rattle.std.specs.Prelude.{◌≡◌, ◌≢◌, ◌++◌, ◌∷◌, ◌+◌, ◌-◌, ◌<◌, ◌≤◌, List, [], drop, length, slice_index, take, true, IfOk, IfSome, IsTrue};
 ghost use Rattle.std.specs.Char.{is_ascii_digit};
 ghost use Rattle.std.specs.List.{list_all};
 ghost use Rattle.std.specs.Str.Parse.{digits_value};
-ghost use Rattle.trace_text.specs.Canonical.{BeginsWithOps, EndsLine, IsNumberAt, IsOpAt};
-ghost use Rattle.trace_text.specs.declared.limits.TheConstants.{LINE_FEED, MAX_INPUT, REGISTERS, ZERO};
+ghost use Rattle.trace_text.specs.Canonical.{AreNumbersAt, BeginsWithOps, EndsLine, IsNumberAt, IsOpAt};
+ghost use Rattle.trace_text.specs.declared.limits.TheConstants.{LINE_FEED, MAX_INPUT, SPACE, ZERO};
 ghost use Rattle.trace_text.specs.declared.trace.Op.{Op};
-ghost use Rattle.trace_text.specs.declared.trace.Version.TheVariants.{Two};
 
-use crate::limits::{LINE_FEED, REGISTERS, SPACE, ZERO};
+use crate::kinds::{Kinds, Numbers};
+use crate::limits::{LINE_FEED, SPACE, ZERO};
 use crate::numbers::SHORT;
 use crate::trace::{Op, Version};
-use heap_geometry::limits::{LARGE_MOST, SHELVES};
 use std::alloc::AllocError;
 
 /// The digits from a place on, of which a first 0 is the only one: the number that they write, if
@@ -71,97 +70,79 @@ fn number_up_to(text: &[u8], start: usize, end: u8, most: u64) -> Option<(u64, u
     Some((n, after))
 }
 
-/// The same, of a register.
+/// The numbers of these kinds that stand from a place on, a space between two of them and the line's
+/// end behind the last, and the place behind the line.
 #[inline(always)]
-fn register_at(text: &[u8], start: usize, end: u8) -> Option<(u16, usize)>
+fn numbers_at(kinds: Kinds, text: &[u8], start: usize) -> Option<(Numbers, usize)>
     requires ended { EndsLine text.now }
     requires within { start < length text.now }
-    ensures number { IfSome result (λ p. IsNumberAt text.now start end p.0 p.1) }
-    ensures inside { IfSome result (λ p. end ≢ LINE_FEED → p.1 < length text.now) }
-    ensures most { IfSome result (λ p. p.0 < REGISTERS) }
+    ensures { IfSome result (λ p. AreNumbersAt kinds text.now start p.0 p.1) }
 {
-    let (r, after) = number_up_to(text, start, end, u64::from(REGISTERS) - 1)?;
-    Some((r as u16, after))
+    match kinds {
+        Kinds::One(a) => {
+            let (first, after) = number_up_to(text, start, LINE_FEED, a.most())?;
+            Some((
+                Numbers {
+                    first,
+                    second: 0,
+                    third: 0,
+                },
+                after,
+            ))
+        }
+        Kinds::Two(a, b) => {
+            let (first, at) = number_up_to(text, start, SPACE, a.most())?;
+            let (second, after) = number_up_to(text, at, LINE_FEED, b.most())?;
+            Some((
+                Numbers {
+                    first,
+                    second,
+                    third: 0,
+                },
+                after,
+            ))
+        }
+        Kinds::Three(a, b, c) => {
+            let (first, at) = number_up_to(text, start, SPACE, a.most())?;
+            let (second, at) = number_up_to(text, at, SPACE, b.most())?;
+            let (third, after) = number_up_to(text, at, LINE_FEED, c.most())?;
+            Some((
+                Numbers {
+                    first,
+                    second,
+                    third,
+                },
+                after,
+            ))
+        }
+    }
 }
 
+/// The operation with this letter whose line stands at a place but for the letter and the space
+/// behind it, and the place behind the line.
 #[inline(always)]
-fn alloc_at(version: Version, text: &[u8], start: usize) -> Option<(Op, usize)>
+fn op_with(version: Version, letter: u8, text: &[u8], start: usize) -> Option<(Op, usize)>
     requires ended { EndsLine text.now }
     requires within { start < length text.now }
-    ensures { IfSome result (λ p. IsOpAt version (codes "a ") text.now start p.0 p.1) }
+    ensures { IfSome result (λ p. IsOpAt version (letter ∷ SPACE ∷ []) text.now start p.0 p.1) }
 {
-    let (r, at) = register_at(text, start, SPACE)?;
-    let (need, at) = number_up_to(text, at, SPACE, u64::from(LARGE_MOST))?;
-    let (v, after) = number_at(text, at, LINE_FEED)?;
-    let need = need as u32;
-    Some((Op::Alloc { r, need, v }, after))
+    let kinds = Op::kinds(version, letter)?;
+    let (numbers, after) = numbers_at(kinds, text, start)?;
+    let op = Op::made(letter, numbers)?;
+    Some((op, after))
 }
 
-#[inline(always)]
-fn free_at(version: Version, text: &[u8], start: usize) -> Option<(Op, usize)>
+/// The same, where it is not known beforehand which letter it is.
+fn any_op_with(version: Version, letter: u8, text: &[u8], start: usize) -> Option<(Op, usize)>
     requires ended { EndsLine text.now }
     requires within { start < length text.now }
-    ensures { IfSome result (λ p. IsOpAt version (codes "f ") text.now start p.0 p.1) }
+    ensures { IfSome result (λ p. IsOpAt version (letter ∷ SPACE ∷ []) text.now start p.0 p.1) }
 {
-    let (r, after) = register_at(text, start, LINE_FEED)?;
-    Some((Op::Free { r }, after))
+    op_with(version, letter, text, start)
 }
 
-#[inline(always)]
-fn check_at(version: Version, text: &[u8], start: usize) -> Option<(Op, usize)>
-    requires ended { EndsLine text.now }
-    requires within { start < length text.now }
-    ensures { IfSome result (λ p. IsOpAt version (codes "c ") text.now start p.0 p.1) }
-{
-    let (r, after) = register_at(text, start, LINE_FEED)?;
-    Some((Op::Check { r }, after))
-}
-
-fn fill_at(version: Version, text: &[u8], start: usize) -> Option<(Op, usize)>
-    requires ended { EndsLine text.now }
-    requires within { start < length text.now }
-    ensures { IfSome result (λ p. IsOpAt version (codes "w ") text.now start p.0 p.1) }
-{
-    let (r, at) = register_at(text, start, SPACE)?;
-    let (v, after) = number_at(text, at, LINE_FEED)?;
-    Some((Op::Fill { r, v }, after))
-}
-
-fn put_at(version: Version, text: &[u8], start: usize) -> Option<(Op, usize)>
-    requires ended { EndsLine text.now }
-    requires within { start < length text.now }
-    ensures { IfSome result (λ p. IsOpAt version (codes "p ") text.now start p.0 p.1) }
-{
-    let (r, at) = register_at(text, start, SPACE)?;
-    let (shelf, after) = number_up_to(text, at, LINE_FEED, u64::from(SHELVES) - 1)?;
-    let shelf = shelf as u8;
-    Some((Op::Put { r, shelf }, after))
-}
-
-fn take_at(version: Version, text: &[u8], start: usize) -> Option<(Op, usize)>
-    requires ended { EndsLine text.now }
-    requires within { start < length text.now }
-    ensures { IfSome result (λ p. IsOpAt version (codes "t ") text.now start p.0 p.1) }
-{
-    let (r, at) = register_at(text, start, SPACE)?;
-    let (shelf, after) = number_up_to(text, at, LINE_FEED, u64::from(SHELVES) - 1)?;
-    let shelf = shelf as u8;
-    Some((Op::Take { r, shelf }, after))
-}
-
-fn resize_at(version: Version, text: &[u8], start: usize) -> Option<(Op, usize)>
-    requires ended { EndsLine text.now }
-    requires within { start < length text.now }
-    requires allowed { version ≡ Two }
-    ensures { IfSome result (λ p. IsOpAt version (codes "r ") text.now start p.0 p.1) }
-{
-    let (r, at) = register_at(text, start, SPACE)?;
-    let (need, after) = number_up_to(text, at, LINE_FEED, u64::from(LARGE_MOST))?;
-    let need = need as u32;
-    Some((Op::Resize { r, need }, after))
-}
-
-/// The operation whose line, as it is printed, stands at a place, and the place behind the line.
+/// The operation whose line, as it is printed, stands at a place, and the place behind the line. A
+/// letter that stands here has code of its own, which is faster; any other is read as well.
 #[inline(always)]
 fn op_at(version: Version, text: &[u8], start: usize) -> Option<(Op, usize)>
     requires ended { EndsLine text.now }
@@ -172,14 +153,14 @@ fn op_at(version: Version, text: &[u8], start: usize) -> Option<(Op, usize)>
         return None;
     }
     match text[start] {
-        b'a' => alloc_at(version, text, start + 2),
-        b'f' => free_at(version, text, start + 2),
-        b'c' => check_at(version, text, start + 2),
-        b'w' => fill_at(version, text, start + 2),
-        b'p' => put_at(version, text, start + 2),
-        b't' => take_at(version, text, start + 2),
-        b'r' if version == Version::Two => resize_at(version, text, start + 2),
-        _ => None,
+        b'a' => op_with(version, b'a', text, start + 2),
+        b'f' => op_with(version, b'f', text, start + 2),
+        b'c' => op_with(version, b'c', text, start + 2),
+        b'w' => op_with(version, b'w', text, start + 2),
+        b'p' => op_with(version, b'p', text, start + 2),
+        b't' => op_with(version, b't', text, start + 2),
+        b'r' => op_with(version, b'r', text, start + 2),
+        letter => any_op_with(version, letter, text, start + 2),
     }
 }
 

@@ -1,18 +1,19 @@
 //! What the fields behind a word say.
 
-ghost use Rattle.std.specs.Prelude.{◌≡◌, ◌∷◌, ◌<◌, ◌≤◌, ◌^◌, Ok, IfOk, IfSome, OnOk};
+ghost use Rattle.std.specs.Prelude.{◌≡◌, ◌∷◌, ◌<◌, ◌≤◌, Ok, IfOk, IfSome};
 ghost use Rattle.std.specs.Option.{option_copied};
 ghost use Rattle.trace_text.specs.declared.limits.TheConstants.{MAX_LANES};
 ghost use Rattle.trace_text.specs.Causes.{TellsCause};
 ghost use Rattle.trace_text.specs.Lines.{fields_of};
-ghost use Rattle.trace_text.specs.Said.{numeral_in, ranged, register_of, need_of, shelf_of, some_in, none_in, one_in, two_in, three_in, heap_fields_in, limit_in, heap_numbers_in, alloc_in, free_in, fill_in, check_in, put_in, take_in, resize_in, op_in, op_of, order_in};
+ghost use Rattle.trace_text.specs.Operations.{AreWithin, IsKind, maker_of};
+ghost use Rattle.trace_text.specs.Said.{numeral_in, ranged, kind_of, some_in, none_in, one_in, two_in, three_in, heap_fields_in, limit_in, heap_numbers_in, numbers_in, op_by, op_of, order_in};
 
 use crate::fault::Cause;
-use crate::limits::{ORDER_MOST, REGISTERS};
+use crate::kinds::{Kind, Kinds, Numbers};
+use crate::limits::ORDER_MOST;
 use crate::lines::{field_to, first_field};
 use crate::numbers::{SHORT, digits_number, first_digits, number};
 use crate::trace::{Op, OrderRun, Version};
-use heap_geometry::limits::{LARGE_MOST, SHELVES};
 
 /// A field as a number.
 #[tactic(auto, unfolding(crate::specs::Said::numeral_in))]
@@ -35,25 +36,12 @@ pub(crate) fn ranged(cause: Cause, low: u64, high: u64, n: u64) -> Result<u64, C
     }
 }
 
-/// The register of a number.
-fn register(n: u64) -> Result<u16, Cause>
-    ensures { result ≡ register_of n }
+/// A number that says something of this kind.
+fn of_kind(kind: Kind, n: u64) -> Result<u64, Cause>
+    ensures value { result ≡ kind_of kind n }
+    ensures within { IfOk result (IsKind kind) }
 {
-    Ok(ranged(Cause::OutOfRange, 0, u64::from(REGISTERS) - 1, n)? as u16)
-}
-
-/// The need of a number.
-fn need(n: u64) -> Result<u32, Cause>
-    ensures { result ≡ need_of n }
-{
-    Ok(ranged(Cause::OutOfRange, 0, u64::from(LARGE_MOST), n)? as u32)
-}
-
-/// The shelf of a number.
-fn shelf(n: u64) -> Result<u8, Cause>
-    ensures { result ≡ shelf_of n }
-{
-    Ok(ranged(Cause::OutOfRange, 0, u64::from(SHELVES) - 1, n)? as u8)
+    ranged(Cause::OutOfRange, 0, kind.most(), n)
 }
 
 /// The first field, and what is left behind it.
@@ -165,91 +153,54 @@ fn three(fields: &[u8]) -> Result<(u64, u64, u64), Cause>
     any_three(fields)
 }
 
-#[tactic(auto, unfolding(crate::specs::Said::alloc_in))]
-fn alloc(fields: &[u8]) -> Result<Op, Cause>
-    ensures { result ≡ alloc_in (fields_of fields.now) }
+/// The numbers of these kinds that are the fields behind the word.
+#[tactic(auto, unfolding(crate::specs::Said::numbers_in))]
+fn numbers(kinds: Kinds, fields: &[u8]) -> Result<Numbers, Cause>
+    ensures value { result ≡ numbers_in kinds (fields_of fields.now) }
+    ensures within { IfOk result (AreWithin kinds) }
 {
-    let (r, words, v) = three(fields)?;
-    let r = register(r)?;
-    let need = need(words)?;
-    Ok(Op::Alloc { r, need, v })
-}
-
-#[tactic(auto, unfolding(crate::specs::Said::free_in))]
-fn free(fields: &[u8]) -> Result<Op, Cause>
-    ensures { result ≡ free_in (fields_of fields.now) }
-{
-    let r = register(one(fields)?)?;
-    Ok(Op::Free { r })
-}
-
-#[tactic(auto, unfolding(crate::specs::Said::fill_in))]
-fn fill(fields: &[u8]) -> Result<Op, Cause>
-    ensures { result ≡ fill_in (fields_of fields.now) }
-{
-    let (r, v) = two(fields)?;
-    let r = register(r)?;
-    Ok(Op::Fill { r, v })
-}
-
-#[tactic(auto, unfolding(crate::specs::Said::check_in))]
-fn check(fields: &[u8]) -> Result<Op, Cause>
-    ensures { result ≡ check_in (fields_of fields.now) }
-{
-    let r = register(one(fields)?)?;
-    Ok(Op::Check { r })
-}
-
-#[tactic(auto, unfolding(crate::specs::Said::put_in))]
-fn put(fields: &[u8]) -> Result<Op, Cause>
-    ensures { result ≡ put_in (fields_of fields.now) }
-{
-    let (r, shelf_number) = two(fields)?;
-    let r = register(r)?;
-    let shelf = shelf(shelf_number)?;
-    Ok(Op::Put { r, shelf })
-}
-
-#[tactic(auto, unfolding(crate::specs::Said::take_in))]
-fn take(fields: &[u8]) -> Result<Op, Cause>
-    ensures { result ≡ take_in (fields_of fields.now) }
-{
-    let (r, shelf_number) = two(fields)?;
-    let r = register(r)?;
-    let shelf = shelf(shelf_number)?;
-    Ok(Op::Take { r, shelf })
-}
-
-#[tactic(auto, unfolding(crate::specs::Said::resize_in))]
-fn resize(fields: &[u8]) -> Result<Op, Cause>
-    ensures { result ≡ resize_in (fields_of fields.now) }
-{
-    let (r, words) = two(fields)?;
-    let r = register(r)?;
-    let need = need(words)?;
-    Ok(Op::Resize { r, need })
-}
-
-/// The operation that a line in a lane says in every version.
-#[tactic(auto, unfolding(crate::specs::Said::op_in))]
-fn common_op(word: &[u8], fields: &[u8]) -> Result<Op, Cause>
-    ensures { result ≡ op_in word.now (fields_of fields.now) }
-{
-    if word == b"a".as_slice() {
-        alloc(fields)
-    } else if word == b"f".as_slice() {
-        free(fields)
-    } else if word == b"w".as_slice() {
-        fill(fields)
-    } else if word == b"c".as_slice() {
-        check(fields)
-    } else if word == b"p".as_slice() {
-        put(fields)
-    } else if word == b"t".as_slice() {
-        take(fields)
-    } else {
-        Err(Cause::UnknownOp)
+    match kinds {
+        Kinds::One(a) => {
+            let first = of_kind(a, one(fields)?)?;
+            Ok(Numbers {
+                first,
+                second: 0,
+                third: 0,
+            })
+        }
+        Kinds::Two(a, b) => {
+            let (first, second) = two(fields)?;
+            let first = of_kind(a, first)?;
+            let second = of_kind(b, second)?;
+            Ok(Numbers {
+                first,
+                second,
+                third: 0,
+            })
+        }
+        Kinds::Three(a, b, c) => {
+            let (first, second, third) = three(fields)?;
+            let first = of_kind(a, first)?;
+            let second = of_kind(b, second)?;
+            let third = of_kind(c, third)?;
+            Ok(Numbers {
+                first,
+                second,
+                third,
+            })
+        }
     }
+}
+
+/// The operation with this letter that a line in a lane says in a text of this version.
+fn op_with(version: Version, letter: u8, fields: &[u8]) -> Result<Op, Cause>
+    ensures { result ≡ op_by version (maker_of letter) (fields_of fields.now) }
+{
+    let Some(kinds) = Op::kinds(version, letter) else {
+        return Err(Cause::UnknownOp);
+    };
+    let numbers = numbers(kinds, fields)?;
+    Op::made(letter, numbers).ok_or(Cause::UnknownOp)
 }
 
 /// The operation that a line in a lane says in a text of this version.
@@ -257,9 +208,9 @@ fn common_op(word: &[u8], fields: &[u8]) -> Result<Op, Cause>
 pub(crate) fn op(version: Version, word: &[u8], fields: &[u8]) -> Result<Op, Cause>
     ensures { result ≡ op_of version word.now (fields_of fields.now) }
 {
-    match version {
-        Version::Two if word == b"r".as_slice() => resize(fields),
-        _ => common_op(word, fields),
+    match word {
+        [letter] => op_with(version, *letter, fields),
+        _ => Err(Cause::UnknownOp),
     }
 }
 

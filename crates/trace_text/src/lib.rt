@@ -4,6 +4,7 @@
 mod canonical;
 pub mod fault;
 mod fields;
+mod kinds;
 pub mod laws;
 pub mod limits;
 mod lines;

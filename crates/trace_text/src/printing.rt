@@ -1,9 +1,9 @@
 //! The printer: from a trace to its canonical text.
 
-ghost use Rattle.std.specs.Prelude.{◌≡◌, ◌∷◌, ◌++◌, [], map, decimal, IfOk, OnOk};
+ghost use Rattle.std.specs.Prelude.{◌≡◌, ◌∷◌, ◌++◌, map, IfOk, OnOk};
 ghost use Rattle.std.specs.List.{flat_map, join_with_byte};
 ghost use Rattle.trace_text.specs.declared.limits.TheConstants.{SPACE};
-ghost use Rattle.trace_text.specs.Text.{limit_fields, heap_fields, line, op_line, lane_lines, order_line, canonical_of};
+ghost use Rattle.trace_text.specs.Text.{limit_fields, heap_fields, lane_lines, order_line, canonical_of};
 ghost use Rattle.trace_text.specs.Traces.{IsTrace};
 
 use crate::text::Text;
@@ -31,58 +31,13 @@ pub fn write_heap(text: &mut Text, trace: &Trace) -> Result<(), AllocError>
     write_limit(text, trace)
 }
 
-/// A line of a word and two numbers.
-fn line_of_two(text: &mut Text, word: &str, first: u64, second: u64) -> Result<(), AllocError>
-    ensures { OnOk result (text.new
-        ≡ text.old ++ line (word.now ∷ decimal first ∷ decimal second ∷ [])) }
-{
-    text.begin(word)?;
-    text.number(first)?;
-    text.number(second)?;
-    text.end_line()
-}
-
-/// A line of a word and three numbers.
-fn line_of_three(
-    text: &mut Text,
-    word: &str,
-    first: u64,
-    second: u64,
-    third: u64,
-) -> Result<(), AllocError>
-    ensures { OnOk result (text.new
-        ≡ text.old ++ line (word.now ∷ decimal first ∷ decimal second ∷ decimal third ∷ [])) }
-{
-    text.begin(word)?;
-    text.number(first)?;
-    text.number(second)?;
-    text.number(third)?;
-    text.end_line()
-}
-
-/// Writes the line of an operation.
-#[tactic(auto, unfolding(crate::specs::Text::op_fields))]
-fn write_op(text: &mut Text, op: Op) -> Result<(), AllocError>
-    ensures { OnOk result (text.new ≡ text.old ++ op_line op) }
-{
-    match op {
-        Op::Alloc { r, need, v } => line_of_three(text, "a", u64::from(r), u64::from(need), v),
-        Op::Free { r } => text.line_with("f", u64::from(r)),
-        Op::Fill { r, v } => line_of_two(text, "w", u64::from(r), v),
-        Op::Check { r } => text.line_with("c", u64::from(r)),
-        Op::Put { r, shelf } => line_of_two(text, "p", u64::from(r), u64::from(shelf)),
-        Op::Take { r, shelf } => line_of_two(text, "t", u64::from(r), u64::from(shelf)),
-        Op::Resize { r, need } => line_of_two(text, "r", u64::from(r), u64::from(need)),
-    }
-}
-
 /// Writes the lines of a lane.
 fn write_lane(text: &mut Text, ops: &[Op]) -> Result<(), AllocError>
     ensures { OnOk result (text.new ≡ text.old ++ lane_lines ops.now) }
 {
     text.line("lane")?;
     for op in ops {
-        write_op(text, *op)?;
+        op.write(text)?;
     }
     Ok(())
 }
@@ -103,7 +58,7 @@ fn write_orders(text: &mut Text, orders: &[OrderRun]) -> Result<(), AllocError>
     ensures { OnOk result (text.new ≡ text.old ++ flat_map order_line orders.now) }
 {
     for run in orders {
-        line_of_two(text, "order", u64::from(run.lane), u64::from(run.steps))?;
+        text.line_with_two("order", u64::from(run.lane), u64::from(run.steps))?;
     }
     Ok(())
 }

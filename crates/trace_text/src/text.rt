@@ -100,6 +100,40 @@ impl Text {
         self.end_line()
     }
 
+    /// A line of a word and two numbers.
+    pub(crate) fn line_with_two(
+        &mut self,
+        word: &str,
+        first: u64,
+        second: u64,
+    ) -> Result<(), AllocError>
+        ensures { OnOk result (self.new
+            ≡ self.old ++ line (word.now ∷ decimal first ∷ decimal second ∷ [])) }
+    {
+        self.begin(word)?;
+        self.number(first)?;
+        self.number(second)?;
+        self.end_line()
+    }
+
+    /// A line of a word and three numbers.
+    pub(crate) fn line_with_three(
+        &mut self,
+        word: &str,
+        first: u64,
+        second: u64,
+        third: u64,
+    ) -> Result<(), AllocError>
+        ensures { OnOk result (self.new
+            ≡ self.old ++ line (word.now ∷ decimal first ∷ decimal second ∷ decimal third ∷ [])) }
+    {
+        self.begin(word)?;
+        self.number(first)?;
+        self.number(second)?;
+        self.number(third)?;
+        self.end_line()
+    }
+
     /// The bytes of the text.
     pub fn into_bytes(self) -> Vec<u8>
         ensures { result.items ≡ self }

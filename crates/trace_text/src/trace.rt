@@ -2,12 +2,16 @@
 
 ghost use Rattle.std.specs.Prelude.{◌≡◌, ◌↔◌, ◌++◌, ◌∷◌, ◌+◌, ◌≤◌, List, [], length, map, IfOk, IsTrue, OnOk, OnErr};
 ghost use Rattle.trace_text.specs.Canonical.{BeginsWithOps, last_with_all};
+ghost use Rattle.trace_text.specs.Operations.{AreOf, kinds_in, made_in};
 ghost use Rattle.trace_text.specs.Said.{last_with};
+ghost use Rattle.trace_text.specs.Text.{op_line};
 ghost use Rattle.trace_text.specs.Traces.{heap_word};
 ghost use Rattle.trace_text.specs.declared.limits.TheConstants.{MAX_INPUT};
 ghost use Rattle.trace_text.specs.declared.trace.Op.{Op};
 
 use crate::canonical::read_ops;
+use crate::kinds::{Kind, Kinds, Numbers};
+use crate::text::Text;
 use heap_geometry::geometry::Geometry;
 use std::alloc::{AllocError, Global};
 use std::marker::Model;
@@ -67,6 +71,77 @@ pub enum Op {
     /// Resizes the register's block to `need` words: what it holds stays as far as there is room, and
     /// the words behind that are 0. An operation of `Version::Two` alone.
     Resize { r: u16, need: u32 },
+}
+
+impl Op {
+    /// Writes the line of the operation.
+    #[tactic(auto, unfolding(crate::specs::Text::op_fields))]
+    pub(crate) fn write(self, text: &mut Text) -> Result<(), AllocError>
+        ensures { OnOk result (text.new ≡ text.old ++ op_line self) }
+    {
+        match self {
+            Op::Alloc { r, need, v } => text.line_with_three("a", u64::from(r), u64::from(need), v),
+            Op::Free { r } => text.line_with("f", u64::from(r)),
+            Op::Fill { r, v } => text.line_with_two("w", u64::from(r), v),
+            Op::Check { r } => text.line_with("c", u64::from(r)),
+            Op::Put { r, shelf } => text.line_with_two("p", u64::from(r), u64::from(shelf)),
+            Op::Take { r, shelf } => text.line_with_two("t", u64::from(r), u64::from(shelf)),
+            Op::Resize { r, need } => text.line_with_two("r", u64::from(r), u64::from(need)),
+        }
+    }
+
+    /// What the numbers behind a letter say, if an operation of this version has it.
+    #[inline(always)]
+    #[tactic(auto, unfolding(crate::specs::Operations::maker_in))]
+    pub(crate) fn kinds(version: Version, letter: u8) -> Option<Kinds>
+        ensures { result ≡ kinds_in version letter }
+    {
+        match letter {
+            b'a' => Some(Kinds::Three(Kind::Register, Kind::Need, Kind::Value)),
+            b'f' => Some(Kinds::One(Kind::Register)),
+            b'w' => Some(Kinds::Two(Kind::Register, Kind::Value)),
+            b'c' => Some(Kinds::One(Kind::Register)),
+            b'p' => Some(Kinds::Two(Kind::Register, Kind::Shelf)),
+            b't' => Some(Kinds::Two(Kind::Register, Kind::Shelf)),
+            b'r' if version == Version::Two => Some(Kinds::Two(Kind::Register, Kind::Need)),
+            _ => None,
+        }
+    }
+
+    /// The operation with a letter and the numbers behind it.
+    #[inline(always)]
+    #[tactic(auto, unfolding(crate::specs::Operations::maker_in))]
+    pub(crate) fn made(letter: u8, n: Numbers) -> Option<Op>
+        requires { AreOf letter n }
+        ensures { result ≡ made_in letter n }
+    {
+        match letter {
+            b'a' => Some(Op::Alloc {
+                r: n.first as u16,
+                need: n.second as u32,
+                v: n.third,
+            }),
+            b'f' => Some(Op::Free { r: n.first as u16 }),
+            b'w' => Some(Op::Fill {
+                r: n.first as u16,
+                v: n.second,
+            }),
+            b'c' => Some(Op::Check { r: n.first as u16 }),
+            b'p' => Some(Op::Put {
+                r: n.first as u16,
+                shelf: n.second as u8,
+            }),
+            b't' => Some(Op::Take {
+                r: n.first as u16,
+                shelf: n.second as u8,
+            }),
+            b'r' => Some(Op::Resize {
+                r: n.first as u16,
+                need: n.second as u32,
+            }),
+            _ => None,
+        }
+    }
 }
 
 /// A run of steps of one lane.

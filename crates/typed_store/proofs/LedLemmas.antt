@@ -4,7 +4,6 @@ use Rattle.std.specs.Prelude.{All}
 use Rattle.std.proofs.lemmas.List.Elements.{All-head, All-tail}
 use Rattle.pool_model.specs.declared.event.Event.{Event}
 use Rattle.pool_model.specs.Histories.{Begins, own}
-use Rattle.errand_steps.specs.declared.reply.Reply.TheVariants as reply
 use Rattle.sound_laws.specs.events.Ends.{HasEnded}
 use Rattle.sound_laws.specs.events.Made.{LeadsBy, Made}
 use Rattle.live_heap.specs.Heaps.{HeapFields}

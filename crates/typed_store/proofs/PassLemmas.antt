@@ -165,6 +165,15 @@ reads-self h p of idle = record {
 pub owned-token : (p : Pass) (token : Block) → (owns : Owns p token) → owned_in p token.place ≡ Some owns.0.0
 owned-token p token (owns, home) = ap (if_of p.errand.caller) owns.1 ∙ of-self p.errand.caller owns.0 owns.2
 
+-- a block of the hand serves the need for which it was given, while no word of it is written
+pub blank-need :
+    (p : Pass) (token : Block) (caller words : ℕ) → Owns p token → owned_in p token.place ≡ Some (fresh_block caller words token.place)
+    → token.need ≡ need_of words
+blank-need p token caller words owns blank =
+    let same : Some owns.0.0 ≡ Some (fresh_block caller words token.place) = sym (owned-token p token owns) ∙ blank in
+    let is : owns.0.0 ≡ fresh_block caller words token.place = cc in
+    sym owns.0.3 ∙ ap (λ (b : PoolBlock). b.need) is
+
 -- what is owned after a write or a read is owned still
 pub owned-owns :
     (p q : Pass) (token : Block) (now : PoolBlock) → q.errand.caller ≡ p.errand.caller → owned_in q token.place ≡ Some now

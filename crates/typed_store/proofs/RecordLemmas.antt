@@ -48,13 +48,13 @@ records-counted p [] (r ∷ rs) are = absurd are
 records-counted p (b ∷ bs) [] are = absurd are
 records-counted p (b ∷ bs) (r ∷ rs) are = ap suc (records-counted p bs rs are.1)
 
-pub records-push :
-    (p : Pass) (blocks : List Block) (records : List (List ℕ)) (block : Block) (words : List ℕ) → AllZip (λ block words. IsRecord p block words) blocks records
-    → IsRecord p block words → AllZip (λ block words. IsRecord p block words) (blocks ++ block ∷ []) (records ++ words ∷ [])
-records-push p [] [] block words are is = (is, tt)
-records-push p [] (r ∷ rs) block words are is = absurd are
-records-push p (b ∷ bs) [] block words are is = absurd are
-records-push p (b ∷ bs) (r ∷ rs) block words are is = (are.0, records-push p bs rs block words are.1 is)
+pub zip-push :
+    (P : Block → List ℕ → Type 0) (blocks : List Block) (records : List (List ℕ)) (block : Block) (words : List ℕ) → AllZip P blocks records
+    → P block words → AllZip P (blocks ++ block ∷ []) (records ++ words ∷ [])
+zip-push P [] [] block words are is = (is, tt)
+zip-push P [] (r ∷ rs) block words are is = absurd are
+zip-push P (b ∷ bs) [] block words are is = absurd are
+zip-push P (b ∷ bs) (r ∷ rs) block words are is = (are.0, zip-push P bs rs block words are.1 is)
 
 pub record-at :
     (p : Pass) (blocks : List Block) (records : List (List ℕ)) (number : ℕ) (block : Block) → AllZip (λ block words. IsRecord p block words) blocks records

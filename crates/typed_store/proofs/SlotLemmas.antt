@@ -2,7 +2,7 @@
 use Rattle.std.proofs.Common.{ℕ, zero, suc, ◌≡◌, ◌≢◌, List, [], ◌∷◌, ◌++◌, Option, Some, None, length, refl, sym, ◌∙◌, ap, subst, append_assoc}
 use Rattle.std.specs.List.{slice_get, slice_set}
 use Rattle.std.specs.Prelude.{All}
-use Rattle.std.proofs.lemmas.List.Elements.{All-cons, All-head, All-nil, All-tail}
+use Rattle.std.proofs.lemmas.List.Elements.{All-append, All-cons, All-head, All-nil, All-tail}
 use Rattle.std.proofs.lemmas.Option.{none-some}
 use Rattle.pool_model.specs.Pool.{Block as PoolBlock}
 use Rattle.live_heap.specs.declared.block.Block.{Block}
@@ -87,6 +87,21 @@ pub all-token :
 all-token P slots slot block is all =
     let a = around slots slot (Node block) is in
     all-one P a.before a.after block (subst (All P) a.was all)
+
+all-behind : (P : Block → Type 0) (xs ys : List Block) → All P (xs ++ ys) → All P ys
+all-behind P [] ys all = all
+all-behind P (x ∷ xs) ys all = all-behind P xs ys (All-tail P x (xs ++ ys) all)
+
+-- it stays so where a slot gets a token of which it is so, or loses one
+pub all-set :
+    (P : Block → Type 0) (slots : List Slot) (slot : ℕ) (was now : Slot) → slice_get slots slot ≡ Some was → All P (tokens_in slots) → All P (token_in now)
+    → All P (tokens_in (slice_set slots slot now))
+all-set P slots slot was now is all new =
+    let a = around slots slot was is in
+    let old = subst (All P) a.was all in
+    let back = all-behind P (token_in was) a.after (all-behind P a.before (token_in was ++ a.after) old) in
+    subst (All P) (sym (a.now now))
+    (All-append P a.before (token_in now ++ a.after) (all-front P a.before (token_in was ++ a.after) old) (All-append P (token_in now) a.after new back))
 
 -- the tokens in two slots lie apart
 slots-apart :

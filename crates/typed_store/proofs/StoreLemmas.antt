@@ -1,6 +1,8 @@
 -- What a change of one slot makes of a store.
 use Rattle.std.proofs.Common.{ℕ, suc, ◌≡◌, ◌≢◌, ◌+◌, ◌-◌, List, [], ◌∷◌, ◌++◌, Option, Some, None, Vec, Global, length, length-append, refl, sym, ◌∙◌, ap, subst, arith, append_assoc, inl, inr, eq-eqb, ne_eqb}
 use Rattle.std.specs.List.{AllZip, slice_get, slice_set}
+use Rattle.std.specs.Prelude.{All}
+use Rattle.heap_geometry.specs.Need.{need_of}
 use Rattle.std.proofs.lemmas.Bool.{cases_eq}
 use Rattle.std.proofs.lemmas.Option.{none-some, some_pair_parts}
 use Rattle.pool_model.specs.Pool.{Block as PoolBlock}
@@ -190,6 +192,7 @@ built-stays s q waiting same b =
       nodes = b.nodes;
       words = b.words;
       records = (records-stay s.pass q s.records.items b.words back b.records.0, b.records.1);
+      sized = b.sized;
       spare = b.spare;
     }
 
@@ -240,6 +243,7 @@ room-ready h s slots unused tokens nodes spare ready =
         nodes = ap (λ l. length l) tokens ∙ b.nodes;
         words = b.words;
         records = b.records;
+        sized = (subst (All (λ (x : Block). x.need ≡ need_of 3)) (sym tokens) b.sized.0, b.sized.1);
         spare = spare;
       };
     }

@@ -2,6 +2,8 @@
 use Rattle.std.proofs.Common.{ℕ, suc, ◌≡◌, ◌≢◌, ◌-◌, List, [], ◌∷◌, ◌++◌, Option, Some, Vec, Global, length, length-append, refl, sym, ◌∙◌, ap, subst, arith, inl, inr}
 use Rattle.std.specs.Prelude.{All}
 use Rattle.std.specs.List.{slice_get, slice_set}
+use Rattle.std.proofs.lemmas.List.Elements.{All-nil}
+use Rattle.heap_geometry.specs.Need.{need_of}
 use Rattle.errand_steps.specs.declared.reply.Reply.TheVariants as reply
 use Rattle.errand_steps.specs.Calls.{free}
 use Rattle.live_heap.specs.declared.answers.FreeAnswer.TheVariants as free_answer
@@ -31,7 +33,7 @@ use Rattle.typed_store.proofs.LinkLemmas.{leads-append, leads-one, leads-same}
 use Rattle.std.proofs.lemmas.Option.{some_pair_parts}
 use Rattle.typed_store.proofs.PassLemmas.{rests-on}
 use Rattle.typed_store.proofs.RelinkLemmas.{behind}
-use Rattle.typed_store.proofs.SlotLemmas.{all-front}
+use Rattle.typed_store.proofs.SlotLemmas.{all-front, all-set}
 use Rattle.typed_store.proofs.StayLemmas.{SameFor, calling-free-same, freed-same, nodes-stay, records-stay, same-all}
 use Rattle.typed_store.proofs.StoreLemmas.{built-stays, exact-out, fewer-tokens, list-unlinked, spare-out}
 
@@ -104,6 +106,12 @@ taken-out h s r slots unused head block sought before after ready stands rests l
         nodes = omega (arith, tokens, fewer, b.nodes, less before after stands);
         words = b.words;
         records = (records-stay s.pass r s.records.items b.words same b.records.0, b.records.1);
+        sized = (
+          subst (λ (l : List Slot). All (λ (x : Block). x.need ≡ need_of 3) (tokens_in l)) (sym now)
+              (all-set (λ (x : Block). x.need ≡ need_of 3) s.slots.items sought.slot (Node block) (Spare s.unused) is b.sized.0
+              (All-nil (λ (x : Block). x.need ≡ need_of 3))),
+          b.sized.1,
+        );
         spare =
             subst (λ (l : List Slot). IsSpare l unused) (sym now)
             (subst (IsSpare (slice_set s.slots.items sought.slot (Spare s.unused))) (sym number)

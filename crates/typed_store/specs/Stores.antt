@@ -1,7 +1,8 @@
 -- What a store holds, between its calls and while one is under way.
-use Rattle.std.specs.Prelude.{ℕ, suc, Bool, false, ◌≡◌, ◌≢◌, ◌+◌, ◌<◌, List, [], ◌∷◌, ◌++◌, Option, Some, None, length}
+use Rattle.std.specs.Prelude.{ℕ, suc, Bool, false, ◌≡◌, ◌≢◌, ◌+◌, ◌<◌, List, [], ◌∷◌, ◌++◌, All, Option, Some, None, length}
 use Rattle.std.specs.List.{AllZip}
 use Rattle.std.specs.Vec.{vec_capacity, vec_len}
+use Rattle.heap_geometry.specs.Need.{need_of}
 use Rattle.errand_steps.specs.Begins.{IsIdle}
 use Rattle.errand_steps.specs.Calls.{Call, alloc, free}
 use Rattle.live_heap.specs.declared.block.Block.{Block}
@@ -38,6 +39,12 @@ blocks_of s = tokens_in s.slots.items ++ s.records.items
 abbrev pub slot_count : Store → ℕ
 slot_count s = length s.slots.items
 
+-- each node's block was given for three words, and each record's for its words and how many they are
+abbrev pub AreSized : Store → List (List ℕ) → Type 0
+AreSized s records =
+    All (λ block. block.need ≡ need_of 3) (tokens_in s.slots.items)
+    × AllZip (λ block words. block.need ≡ need_of (length words + 1)) s.records.items records
+
 -- the store has a list and records; no slot holds a token but for a node of the list, and the other slots are chained
 pub record IsBuilt (s : Store) : Type 0 where
   pub pairs : List (ℕ × ℕ)
@@ -45,6 +52,7 @@ pub record IsBuilt (s : Store) : Type 0 where
   pub nodes : length (tokens_in s.slots.items) ≡ length pairs
   pub words : List (List ℕ)
   pub records : HasRecords s words
+  pub sized : AreSized s words
   pub spare : IsSpare s.slots.items s.unused
 
 -- the store is in no call, and the blocks of its nodes and of its records are all that its caller owns, each once

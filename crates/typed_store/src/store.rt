@@ -374,6 +374,7 @@ impl Store {
         requires idle { IsIdle self.old.pass.errand }
         requires exactly { HoldsExactly self.old.pass (block ∷ blocks_of self.old) }
         requires words { length words.now < usable_words block.need }
+        requires blank { owned_in self.old.pass block.place ≡ Some (fresh_block self.old.pass.errand.caller (length words.now + 1) block.place) }
         requires built { IsBuilt self.old }
         requires room { self.old.recorded < 1000000 }
         requires reserved { vec_len self.old.records < vec_capacity self.old.records }

@@ -14,7 +14,7 @@ returns c =
       told = closes c.args.frees c.args.pass.now.held.hand c.take.new.self.held.hand c.in-Some.hand.now next c.leave.result c.in_default-leave.field-0
           (c.args.won.now, c.args.lost.now, c.args.census.now) (c.counts-hand_won.result.1, c.counts-hand_won.result.2, c.end.new.counted) c.in-Some.ensures.value
           c.leave.ensures c.in_default-leave.is (ap (λ (r : ℕ × ℕ × ℕ × ℕ). r.1) counted) (ap (λ (r : ℕ × ℕ × ℕ × ℕ). r.2) counted) c.take.ensures.empty
-          (subst (λ (k : Hand). TellsCensus k (untold c.args.census.now) c.end.new.counted) (c.into_inner.ensures ∙ sym same) c.end.ensures.census);
+          (c.end.result, subst (λ (k : Hand). TellsCensus k c.end.result (untold c.args.census.now) c.end.new.counted) (c.into_inner.ensures ∙ sym same) c.end.ensures.census);
     }
 
 pub returns-in-Err : goal.returns-in-Err

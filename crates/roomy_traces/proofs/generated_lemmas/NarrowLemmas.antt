@@ -6,10 +6,11 @@ use Rattle.std.proofs.lemmas.List.Sums.{sum_by-cons}
 use Rattle.std.specs.List.{All}
 use Rattle.trace_text.specs.declared.limits.TheConstants.{REGISTERS}
 use Rattle.trace_text.specs.declared.trace.Op.{Op}
-use Rattle.trace_text.specs.declared.trace.Op.TheVariants.{Alloc, Free, Fill, Resize}
+use Rattle.trace_text.specs.declared.trace.Op.TheVariants.{Resize}
 use Rattle.lane_outcomes.specs.LaneCounts.{as_one, count_with}
 use Rattle.lane_outcomes.specs.Deeds.{register_of}
-use Rattle.roomy_traces.specs.Roomy.{Filled, moves, filled_in, serial_step, serial_after, held_by, held_during, most_held, no_blocks}
+use Rattle.roomy_traces.specs.Roomy.{Doing, Filled, doing_of, moves, filled_in, serial_by, serial_after, held_by, held_during, most_held, no_blocks}
+use Rattle.roomy_traces.specs.Roomy as does
 
 -- the registers are empty from this one on
 abbrev pub IsNarrow : ℕ → List (Option Filled) → Type 0
@@ -55,18 +56,23 @@ set-narrow n registers r now low narrow k above =
     get_or-set_other registers r k now None (λ same. absurd (omega (arith, same))) ∙ narrow k above
 
 step-narrow :
-    (n : ℕ) (registers : List (Option Filled)) (held : Option Filled) (operation : Op) → IsLow n operation → IsNarrow n registers
-    → IsNarrow n (serial_step registers held operation)
-step-narrow n registers None (Alloc r need v) low narrow = set-narrow n registers r _ low narrow
-step-narrow n registers (Some filled) (Free r) low narrow = set-narrow n registers r None low narrow
-step-narrow n registers (Some filled) (Fill r v) low narrow = set-narrow n registers r _ low narrow
-step-narrow n registers held (Resize r need) low narrow = absurd low
-step-narrow n registers held operation low narrow = narrow
+    (n : ℕ) (registers : List (Option Filled)) (r : ℕ) (held : Option Filled) (done : Doing) → r < n → IsNarrow n registers
+    → IsNarrow n (serial_by registers r held done)
+step-narrow n registers r held (does.gives need v) low narrow = set-narrow n registers r _ low narrow
+step-narrow n registers r held does.frees low narrow = set-narrow n registers r None low narrow
+step-narrow n registers r (Some filled) (does.fills value) low narrow = set-narrow n registers r _ low narrow
+step-narrow n registers r (Some filled) (does.moves_to need) low narrow = set-narrow n registers r _ low narrow
+step-narrow n registers r None done low narrow = narrow
+step-narrow n registers r (Some filled) done low narrow = narrow
+
+low-register : (n : ℕ) (operation : Op) → IsLow n operation → register_of operation < n
+low-register n (Resize r need) low = absurd low
+low-register n operation low = low
 
 -- no block moves
 never-moves : (n : ℕ) (held : Option Filled) (operation : Op) → IsLow n operation → moves held operation ≡ false
+never-moves n held (Resize r need) low = absurd low
 never-moves n None operation low = refl
-never-moves n (Some filled) (Resize r need) low = absurd low
 never-moves n (Some filled) operation low = refl
 
 during-narrow :
@@ -83,7 +89,8 @@ narrow-most n registers (operation ∷ operations) low narrow =
       arith,
       during-narrow n registers operation (All-head (IsLow n) operation operations low) narrow,
       narrow-most n (serial_after registers operation) operations (All-tail (IsLow n) operation operations low)
-          (step-narrow n registers (filled_in registers operation) operation (All-head (IsLow n) operation operations low) narrow),
+          (step-narrow n registers (register_of operation) (filled_in registers operation) (doing_of (filled_in registers operation) operation)
+          (low-register n operation (All-head (IsLow n) operation operations low)) narrow),
     )
 
 none-full : (many k : ℕ) → get_or (replicate {A = Option Filled} many None) k None ≡ None

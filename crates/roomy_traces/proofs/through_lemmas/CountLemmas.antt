@@ -1,9 +1,9 @@
 -- The events of an operation through a cache: how many blocks they give and free, and that they refuse small needs alone.
-use Rattle.std.proofs.Common.{ℕ, Bool, true, false, ◌≡◌, ◌+◌, ◌≤◌, ◌%◌, ◌^◌, List, [], ◌∷◌, ◌++◌, Option, Some, None, cond, count_by, length, map, replicate, refl, sym, ◌∙◌, subst, inl, inr, arith}
-use Rattle.std.specs.Prelude.{slice_set, flat_map}
-use Rattle.std.specs.List.{AllByRecursion}
-use Rattle.std.proofs.lemmas.Bool.{cases_lt}
-use Rattle.std.proofs.lemmas.List.{set_past}
+use Rattle.std.proofs.Common.{ℕ, Bool, true, false, ◌≡◌, ◌+◌, ◌≤◌, ◌%◌, ◌^◌, List, [], ◌∷◌, ◌++◌, Option, Some, None, cond, count_by, length, map, replicate, refl, sym, ◌∙◌, subst, arith}
+use Rattle.std.specs.Prelude.{flat_map}
+use Rattle.std.specs.List.{All, AllByRecursion}
+use Rattle.std.proofs.lemmas.List.{get_or-replicate, length-replicate}
+use Rattle.std.proofs.lemmas.List.Elements.{All-set}
 use Rattle.std.proofs.lemmas.List.Sums.{sum_by-cons}
 use Rattle.heap_geometry.specs.declared.limits.TheConstants.{CLASSES}
 use Rattle.heap_geometry.specs.Need.{IsNeed, need_of}
@@ -19,45 +19,34 @@ use Rattle.lane_outcomes.specs.Lane.{held_in, registers_after, writing}
 use Rattle.lane_outcomes.specs.LaneCounts.{as_one, count_with}
 use Rattle.lane_outcomes.specs.Magazines.{emptying, freeing, is_kept, magazines_given, served_by}
 use Rattle.lane_outcomes.specs.Rows.{Setting}
-use Rattle.lane_outcomes.proofs.HoldLemmas.{held-nothing, held-set}
+use Rattle.lane_outcomes.proofs.HoldLemmas.{held-inside}
 use Rattle.lane_outcomes.proofs.KeptLemmas.{given-long}
 use Rattle.roomy_traces.specs.Roomy.{IsPlain}
-use Rattle.roomy_traces.proofs.LaneLemmas.{all-append}
-use Rattle.roomy_traces.proofs.PieceLemmas.{IsPlainDeed, IsQuiet, all-looks, all-mild, plain-deed, quiet-refused, quiet-spent, spent-looks, tame-refused, Counts, IsTame, all-writing, counts-append, given-by, given-counts, quiet-counts, quiet-writing, tame-made}
+use Rattle.lane_outcomes.proofs.WalkLemmas.{all-append, all-given, all-looks, all-refused, all-writing, given-of, spent-looks}
+use Rattle.roomy_traces.proofs.PieceLemmas.{Counts, IsQuiet, IsTame, all-mild, counts-append, given-counts, quiet-counts, quiet-writing}
+use Rattle.roomy_traces.proofs.SerialRows.{IsPlainDeed, plain-deed}
 use Rattle.roomy_traces.proofs.through_lemmas.MagazineLemmas.{total, total-freed, total-given}
 use Rattle.lane_outcomes.proofs.SlotRows.{Adds, row-adds}
 use Rattle.lane_outcomes.specs.Deeds as deed
 use Rattle.lane_outcomes.specs.Deeds.{Deed, deed_of, freed_by, given_by, register_of, registers_by}
 
 -- the block in each register serves a need of the heap's
+abbrev pub IsNeeded : Option HeldBlock → Type 0
+IsNeeded None = Unit {0}
+IsNeeded (Some held) = IsNeed held.need
+
 abbrev pub AreNeeds : List (Option HeldBlock) → Type 0
-AreNeeds registers = (r : ℕ) (held : HeldBlock) → held_in registers r ≡ Some held → IsNeed held.need
+AreNeeds registers = All IsNeeded registers
 
-needs-set :
-    (registers : List (Option HeldBlock)) (r : ℕ) (held : Option HeldBlock) → ((h : HeldBlock) → held ≡ Some h → IsNeed h.need) → AreNeeds registers
-    → AreNeeds (slice_set registers r held)
-needs-set registers r held is needs q other full =
-    elim (cases_lt r (length registers)) [
-      | inl within ↦ elim (held-set registers r q held within) [
-        | inl here ↦ is other (sym here.1 ∙ full)
-        | inr there ↦ needs q other (sym there.1 ∙ full)
-      ]
-      | inr past ↦ needs q other (subst (λ (xs : List (Option HeldBlock)). held_in xs q ≡ Some other) (set_past registers r held past) full)
-    ]
-
-needs-new : (words place need : ℕ) (h : HeldBlock) → Some (record { place = place; words = words; need = need_of need }) ≡ Some h → IsNeed h.need
-needs-new words place need h is =
-    let new : HeldBlock = record { place = place; words = words; need = need_of need } in
-    let same : new ≡ h = let e : Some new ≡ Some h = is in cc in
-    subst (λ (held : HeldBlock). IsNeed held.need) same (need_of-within need)
-
-needs-none : (h : HeldBlock) → None ≡ Some h → IsNeed h.need
-needs-none h is = absurd (let e : None ≡ Some h = is in cc)
+needs-at : (registers : List (Option HeldBlock)) (r : ℕ) (held : HeldBlock) → held_in registers r ≡ Some held → AreNeeds registers → IsNeed held.need
+needs-at registers r held full needs = subst IsNeeded full (needs r None (held-inside registers r held full))
 
 needs-by : (registers : List (Option HeldBlock)) (r : ℕ) (done : Deed) → IsPlainDeed done → AreNeeds registers → AreNeeds (registers_by registers r done)
-needs-by registers r (deed.gives need v words place) plain needs = needs-set registers r _ (needs-new words place need) needs
-needs-by registers r (deed.replaces need words place) plain needs = needs-set registers r _ (needs-new words place need) needs
-needs-by registers r deed.frees plain needs = needs-set registers r None needs-none needs
+needs-by registers r (deed.gives need v words place) plain needs =
+    All-set IsNeeded registers r (Some (record { place = place; words = words; need = need_of need })) (need_of-within need) needs
+needs-by registers r (deed.replaces need words place) plain needs =
+    All-set IsNeeded registers r (Some (record { place = place; words = words; need = need_of need })) (need_of-within need) needs
+needs-by registers r deed.frees plain needs = All-set IsNeeded registers r None tt needs
 needs-by registers r deed.lays plain needs = absurd plain
 needs-by registers r (deed.takes words place need) plain needs = absurd plain
 needs-by registers r done plain needs = needs
@@ -68,7 +57,9 @@ needs-after registers operation result plain needs =
     needs-by registers (register_of operation) (deed_of operation result) (plain-deed operation result plain) needs
 
 pub needs-start : (n : ℕ) → AreNeeds (replicate n None)
-needs-start n r held full = needs-none held (sym (held-nothing n r) ∙ full)
+needs-start n r d below =
+    let none : Option HeldBlock = None in
+    subst IsNeeded (sym (get_or-replicate n r none d (omega (arith, below, length-replicate n none)))) tt
 
 -- a magazine or the heap gives a block: the heap by one event
 handed-counts :
@@ -78,7 +69,7 @@ handed-counts :
 handed-counts setting position None need words place value calls given = (
   1,
   given-counts setting.caller need place words value calls (calls ++ writing setting.caller place words value)
-      (given-by setting.caller need place (need_of need) calls given.1) refl,
+      (given-of setting.caller need place (need_of need) calls given.1) refl,
   omega arith,
 )
 handed-counts setting position (Some at) need words place value calls given = (
@@ -144,7 +135,7 @@ module _ (setting : Setting) (depth : ℕ) (position : CachedPosition) (piece : 
             (omega (
               arith,
               total-given position.magazines (need_of need),
-              total-freed caller depth magazines held.place held.need (needs r held full)
+              total-freed caller depth magazines held.place held.need (needs-at position.base.registers r held full needs)
                   (given-long (served_by position.magazines (need_of need)) position.magazines (need_of need) ∙ long),
             ));
       }
@@ -158,14 +149,14 @@ module _ (setting : Setting) (depth : ℕ) (position : CachedPosition) (piece : 
         counts = subst (λ xs. Counts xs 0 frees) (sym is) (freeing-counts caller keeps held.place);
         gives = omega arith;
         few = rw full (freeing-few caller keeps held.place);
-        balance = rw full (omega (arith, total-freed caller depth position.magazines held.place held.need (needs r held full) long));
+        balance = rw full (omega (arith, total-freed caller depth position.magazines held.place held.need (needs-at position.base.registers r held full needs) long));
       }
   counts-by r deed.lays plain needs long row = absurd plain
   counts-by r (deed.takes words place need) plain needs long row = absurd plain
   counts-by r (deed.refuses need) plain needs long events = record {
     given = 0;
     freed = 0;
-    counts = quiet-counts piece (quiet-refused setting.caller need piece events);
+    counts = quiet-counts piece (all-refused IsQuiet setting.caller need piece (λ class. (refl, refl)) (refl, refl) events);
     gives = refl;
     few = omega arith;
     balance = omega arith;
@@ -173,7 +164,7 @@ module _ (setting : Setting) (depth : ℕ) (position : CachedPosition) (piece : 
   counts-by r (deed.spends need) plain needs long spent = record {
     given = 0;
     freed = 0;
-    counts = quiet-counts piece (quiet-spent setting position.base need piece spent);
+    counts = quiet-counts piece (all-looks IsQuiet setting.caller piece (λ class. (refl, refl)) (spent-looks setting position.base need piece position.base.spent spent));
     gives = refl;
     few = omega arith;
     balance = omega arith;
@@ -196,10 +187,6 @@ cached-counts setting depth position operation result piece plain needs long row
     (row-adds setting depth position operation result piece row)
 
 -- the frees that empty magazines give no block
-pub frees-all : (P : Event → Type 0) (caller : ℕ) (places : List ℕ) → ((place : ℕ) → P (Free caller place)) → AllByRecursion P (map (λ place. Free caller place) places)
-frees-all P caller [] holds = tt
-frees-all P caller (place ∷ places) holds = (holds place, frees-all P caller places holds)
-
 frees-none : (caller : ℕ) (places : List ℕ) → count_by is_alloc (map (λ place. Free caller place) places) ≡ 0
 frees-none caller [] = refl
 frees-none caller (place ∷ places) =
@@ -213,7 +200,9 @@ handed-tame :
     (setting : Setting) (position : CachedPosition) (by : Option ℕ) (need words place : ℕ) (value : ℕ → ℕ) (calls : List Event)
     → IsGivenBy by setting position need place calls → AllByRecursion IsTame (calls ++ writing setting.caller place words value)
 handed-tame setting position None need words place value calls given =
-    tame-made setting.caller need place words value calls (given-by setting.caller need place (need_of need) calls given.1)
+    all-append IsTame calls (writing setting.caller place words value)
+    (all-given IsTame setting.caller need place calls (λ class. tt) tt (given-of setting.caller need place (need_of need) calls given.1))
+    (all-writing IsTame setting.caller place words value (λ i n. tt))
 handed-tame setting position (Some at) need words place value calls given =
     subst (λ xs. AllByRecursion IsTame (xs ++ writing setting.caller place words value)) (sym given.1)
     (all-writing IsTame setting.caller place words value (λ i n. tt))
@@ -238,7 +227,7 @@ tame-by setting depth position r deed.frees piece plain (held, full, is) =
     subst (AllByRecursion IsTame) (sym is) (freeing-tame setting.caller (is_kept depth position.magazines held.need) held.place)
 tame-by setting depth position r deed.lays piece plain row = absurd plain
 tame-by setting depth position r (deed.takes words place need) piece plain row = absurd plain
-tame-by setting depth position r (deed.refuses need) piece plain events = tame-refused setting.caller need piece plain events
+tame-by setting depth position r (deed.refuses need) piece plain events = all-refused IsTame setting.caller need piece (λ class. tt) plain events
 tame-by setting depth position r (deed.spends need) piece plain spent =
     all-looks IsTame setting.caller piece (λ class. tt) (spent-looks setting position.base need piece position.base.spent spent)
 tame-by setting depth position r deed.stays piece plain milds =

@@ -1,5 +1,5 @@
 -- Magazines beside their numbers of blocks.
-use Rattle.std.proofs.Common.{ℕ, zero, suc, ◌≡◌, ◌+◌, ◌-◌, ◌<◌, List, [], ◌∷◌, Some, map, min, length, replicate, set, sum, refl, sym, ◌∙◌, ap, inl, inr, arith}
+use Rattle.std.proofs.Common.{ℕ, zero, suc, ◌≡◌, ◌+◌, ◌-◌, ◌<◌, List, [], ◌∷◌, Some, get_or, map, min, length, replicate, set, sum, refl, sym, ◌∙◌, ap, inl, inr, arith}
 use Rattle.std.specs.Prelude.{count_by, nat_lt}
 use Rattle.std.proofs.lemmas.Bool.{cases_Bool, cases_lt}
 use Rattle.std.proofs.lemmas.List.{get_or_past, length-map, map-set, set-get_or, set_past}
@@ -12,7 +12,6 @@ use Rattle.pool_model.specs.Counts.{is_free}
 use Rattle.lane_outcomes.specs.Cached.{hit_of}
 use Rattle.lane_outcomes.specs.Magazines.{empty_magazines, freeing, given_from, is_kept, kept_with, last_in, magazine_of, magazines_given, others_in, served_by}
 use Rattle.roomy_traces.specs.Through.{kept_freed, kept_given, kept_in, none_kept, served}
-use Rattle.roomy_traces.proofs.RegisterLemmas.{get-map}
 
 -- how many blocks each magazine has, and how many all have
 abbrev pub counts_of : List (List ℕ) → List ℕ
@@ -20,6 +19,11 @@ counts_of magazines = map (λ (places : List ℕ). length places) magazines
 
 abbrev pub total : List (List ℕ) → ℕ
 total magazines = sum (counts_of magazines)
+
+get-map : {X Y : Type 0} (h : X → Y) (xs : List X) (r : ℕ) (d : X) → get_or (map h xs) r (h d) ≡ h (get_or xs r d)
+get-map h [] r d = refl
+get-map h (x ∷ xs) zero d = refl
+get-map h (x ∷ xs) (suc r) d = get-map h xs r d
 
 kept-at : (magazines : List (List ℕ)) (class : ℕ) → kept_in (counts_of magazines) class ≡ length (magazine_of magazines class)
 kept-at magazines class = get-map (λ (places : List ℕ). length places) magazines class []

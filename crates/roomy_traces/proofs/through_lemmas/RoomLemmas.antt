@@ -1,8 +1,9 @@
 -- A trace with a frame for each block that its magazines have room for is roomy through them.
-use Rattle.std.proofs.Common.{ℕ, suc, ◌≡◌, ◌+◌, ◌*◌, ◌-◌, ◌<◌, ◌≤◌, List, [], ◌∷◌, Option, Some, None, All, length, set, sum, sum_by, sym, ◌∙◌, ap, subst, inl, inr, arith}
+use Rattle.std.proofs.Common.{ℕ, suc, ◌≡◌, ◌+◌, ◌*◌, ◌-◌, ◌<◌, ◌≤◌, List, [], ◌∷◌, Option, Some, None, All, length, set, sum, sum_by, ◌∙◌, subst, inl, inr, arith}
 use Rattle.std.specs.Prelude.{nat_lt}
-use Rattle.std.proofs.lemmas.Bool.{cases_Bool, cases_eq, cases_lt, ltb-true}
-use Rattle.std.proofs.lemmas.List.{get_or-replicate, get_or_default, get_or_past, get_or-set_other, get_or-set_same, length-replicate, length-set, set_past}
+use Rattle.std.proofs.lemmas.Bool.{cases_Bool, cases_lt, ltb-true}
+use Rattle.std.proofs.lemmas.List.{get_or-replicate, get_or_past, length-replicate, length-set}
+use Rattle.std.proofs.lemmas.List.Elements.{All-set}
 use Rattle.std.proofs.lemmas.List.Sums.{sum_by-cons, sum_by-le}
 use Rattle.heap_geometry.specs.declared.limits.TheConstants.{CLASSES}
 use Rattle.heap_geometry.specs.declared.need.Need.{Need}
@@ -15,27 +16,21 @@ use Rattle.roomy_traces.specs.Through.{IsRoomyThrough, asked, kept_after, kept_f
 -- one number for each class, none of which is more than the depth
 record IsShallow (depth : ℕ) (kept : List ℕ) : Type 0 where
   pub many : length kept ≡ CLASSES
-  pub each : (class : ℕ) → kept_in kept class ≤ depth
+  pub each : All (λ n. n ≤ depth) kept
+
+kept-few : (depth : ℕ) (kept : List ℕ) (class : ℕ) → IsShallow depth kept → kept_in kept class ≤ depth
+kept-few depth kept class shallow =
+    elim (cases_lt class (length kept)) [
+      | inl within ↦ shallow.each class 0 within
+      | inr past ↦ omega (arith, get_or_past kept class 0 past)
+    ]
 
 shallow-set : (depth : ℕ) (kept : List ℕ) (class n : ℕ) → n ≤ depth → IsShallow depth kept → IsShallow depth (set kept class n)
 shallow-set depth kept class n few shallow =
-    record {
-      many = length-set kept class n ∙ shallow.many;
-      each = λ other. elim (cases_eq other class) [
-        | inl same ↦ elim (cases_lt class (length kept)) [
-          | inl within ↦
-              let there : kept_in (set kept class n) other ≡ n = ap (kept_in (set kept class n)) same ∙ get_or-set_same kept class n 0 within in
-              omega (arith, there, few)
-          | inr past ↦ subst (λ (xs : List ℕ). kept_in xs other ≤ depth) (sym (set_past kept class n past)) (shallow.each other)
-        ]
-        | inr apart ↦
-            let there : kept_in (set kept class n) other ≡ kept_in kept other = get_or-set_other kept class other n 0 apart in
-            omega (arith, there, shallow.each other)
-      ];
-    }
+    record { many = length-set kept class n ∙ shallow.many; each = All-set (λ k. k ≤ depth) kept class n few shallow.each }
 
 shallow-given : (depth : ℕ) (kept : List ℕ) (need : Option Need) → IsShallow depth kept → IsShallow depth (kept_given kept need)
-shallow-given depth kept (Some (Small class)) shallow = shallow-set depth kept class (kept_in kept class - 1) (omega (arith, shallow.each class)) shallow
+shallow-given depth kept (Some (Small class)) shallow = shallow-set depth kept class (kept_in kept class - 1) (omega (arith, kept-few depth kept class shallow)) shallow
 shallow-given depth kept (Some (Large units)) shallow = shallow
 shallow-given depth kept (Some TooLarge) shallow = shallow
 shallow-given depth kept None shallow = shallow
@@ -54,8 +49,7 @@ shallow-freed depth kept None shallow = shallow
 
 shallow-sum : (depth : ℕ) (kept : List ℕ) → IsShallow depth kept → sum kept ≤ CLASSES * depth
 shallow-sum depth kept shallow =
-    let all : All (λ n. n ≤ depth) kept = λ class d below. omega (arith, shallow.each class, get_or_default kept class d 0 below) in
-    let most : sum kept ≤ length kept * depth = sum_by-le (λ (n : ℕ). n) depth kept all in
+    let most : sum kept ≤ length kept * depth = sum_by-le (λ (n : ℕ). n) depth kept shallow.each in
     subst (λ n. sum kept ≤ n * depth) shallow.many most
 
 most-room :
@@ -76,10 +70,7 @@ shallow-start depth =
     let none : ℕ = 0 in
     record {
       many = length-replicate CLASSES none;
-      each = λ class. elim (cases_lt class CLASSES) [
-        | inl within ↦ omega (arith, get_or-replicate CLASSES class none none within)
-        | inr past ↦ omega (arith, get_or_past none_kept class 0 (omega (arith, past, length-replicate CLASSES none)))
-      ];
+      each = λ class d below. omega (arith, get_or-replicate CLASSES class none d (omega (arith, below, length-replicate CLASSES none)));
     }
 
 lanes-room :

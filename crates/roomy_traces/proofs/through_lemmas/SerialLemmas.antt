@@ -24,18 +24,18 @@ use Rattle.roomy_traces.specs.Serial.{serial_end, serial_from, serial_outcome, s
 use Rattle.roomy_traces.specs.Through.{IsRoomyThrough, kept_after, none_kept, serial_hits, served_from}
 use Rattle.roomy_traces.proofs.LaneLemmas.{HasMoment, all-begins, all-ends, all-own, moment-of}
 use Rattle.roomy_traces.proofs.SpentLemmas.{IsUnspent}
-use Rattle.roomy_traces.proofs.RegisterLemmas.{IsAlike, IsAnswered, own_by, row-serial}
+use Rattle.roomy_traces.proofs.RegisterLemmas.{IsAlike, own_by}
+use Rattle.roomy_traces.proofs.SerialRows.{IsAnswered, row-serial}
 use Rattle.roomy_traces.proofs.BalanceLemmas.{row-balance}
 use Rattle.roomy_traces.proofs.MostHeldLemmas.{IsUnrefusing, answered-or, row-refuses}
 use Rattle.roomy_traces.proofs.RefuseLemmas.{lane-ranges}
-use Rattle.roomy_traces.proofs.FilledLemmas.{AreFilled, filled-start, row-summed}
-use Rattle.roomy_traces.proofs.through_lemmas.BareLemmas.{row-bare, row-refused}
-use Rattle.roomy_traces.proofs.through_lemmas.FilledLemmas.{row-contains}
-use Rattle.roomy_traces.proofs.through_lemmas.MostKeptLemmas.{AddsThrough, GoesBeside, IsBeside, goes-beside, walk-adds_through}
+use Rattle.roomy_traces.proofs.through_lemmas.FilledLemmas.{AreFilled, filled-at, filled-start, row-contains}
+use Rattle.roomy_traces.proofs.through_lemmas.MostKeptLemmas.{GoesBeside, IsBeside, goes-beside}
 use Rattle.roomy_traces.proofs.through_lemmas.SlotLemmas.{once-kept}
 use Rattle.roomy_traces.proofs.through_lemmas.UnrefusedLemmas.{beside-start, never-refused_through}
 use Rattle.roomy_traces.proofs.through_lemmas.UnspentLemmas.{cached-many, never-spent_through, plain-through}
-use Rattle.lane_outcomes.proofs.LanesLemmas.{cached-lane}
+use Rattle.lane_outcomes.proofs.LanesLemmas.{Adds, cached-lane, walk-adds}
+use Rattle.lane_outcomes.specs.Deeds.{register_of}
 
 -- a lane through a cache stands beside the lane computed on its own, with what its blocks contain
 record StandsThrough (g : Geometry) (setting : Setting) (legal : IsLegalWithoutCounts g setting.history) (position : CachedPosition) (filled : List (Option Filled)) (kept : List ℕ) : Type 0 where
@@ -83,24 +83,22 @@ module _ (g : Geometry) (setting : Setting) (legal : IsLegalWithoutCounts g sett
       let history = setting.history in
       let done : List Event = from.base.done in
       let next : CachedPosition = cached_after depth from operation result piece in
-      let adds : AddsThrough next to = walk-adds_through setting depth next to operations results walks in
+      let adds : Adds next to = walk-adds setting depth next to operations results walks in
       let quiet : AllByRecursion IsUnrefusing piece =
       all-ends IsUnrefusing done piece
-      (all-begins IsUnrefusing (done ++ piece) adds.tail (subst (AllByRecursion IsUnrefusing) adds.whole unrefusing)) in
+      (all-begins IsUnrefusing (done ++ piece) adds.0 (subst (AllByRecursion IsUnrefusing) adds.1 unrefusing)) in
       let answered : IsAnswered result =
       elim (answered-or result unspent.0) [
         | inl answer ↦ answer
         | inr refused ↦
-            absurd (row-refuses setting from.base operation piece
-            (row-refused setting depth from operation piece (subst (λ (r : Outcome). CachedRow setting depth from operation r piece) refused row)) quiet)
+            absurd (row-refuses setting depth from operation piece (subst (λ (r : Outcome). CachedRow setting depth from operation r piece) refused row) quiet)
       ] in
-      let bare = row-bare setting depth from operation result piece plain.0 stands.beside.fresh row in
       let goes : GoesBeside depth from filled kept operation result piece =
       goes-beside setting depth from filled kept operation result piece plain.0 answered row stands.beside in
       let keeps_after = cached-row-keeps as_one g setting depth from operation result piece stands.got stands.gone legal stands.beside.long row stands.keeps in
-      let behind : List Event = adds.tail ++ emptying caller to.magazines in
+      let behind : List Event = adds.0 ++ emptying caller to.magazines in
       let own_is : own caller history ≡ (done ++ piece) ++ behind =
-      all_used ∙ ap (λ (xs : List Event). xs ++ emptying caller to.magazines) adds.whole ∙ append_assoc (done ++ piece) adds.tail (emptying caller to.magazines) in
+      all_used ∙ ap (λ (xs : List Event). xs ++ emptying caller to.magazines) adds.1 ∙ append_assoc (done ++ piece) adds.0 (emptying caller to.magazines) in
       let before : HasMoment caller history done = moment-of caller history done (piece ++ behind) (own_is ∙ append_assoc done piece behind) in
       let after : HasMoment caller history (done ++ piece) = moment-of caller history (done ++ piece) behind own_is in
       let has = row-contains g setting legal depth from filled stands.got stands.gone stands.beside.alike stands.beside.long stands.keeps before stands.has operation
@@ -110,15 +108,15 @@ module _ (g : Geometry) (setting : Setting) (legal : IsLegalWithoutCounts g sett
       (own_is ∙ ap (λ (xs : List Event). (done ++ xs) ++ behind) is ∙ ap (λ (xs : List Event). xs ++ behind) (sym (append_assoc done part more))
       ∙ append_assoc (done ++ part) more behind))
       (once-kept history caller (done ++ piece) (kept_from 0 next.magazines) next.base.registers _ _ keeps_after after) in
-      let serial = row-serial setting from.base filled operation result bare.0 plain.0 stands.beside.alike answered bare.1 in
-      let summed = row-summed setting from.base filled operation result bare.0 bare.1 stands.has in
+      let serial = row-serial setting depth from filled operation result piece plain.0 answered stands.beside.alike row in
+      let now = filled-at history caller done from.base.registers filled (register_of operation) _ _ refl refl stands.has in
       let stands_after : StandsThrough g setting legal next (serial_after filled operation) (kept_after depth kept (filled_in filled operation) operation) =
       record { beside = goes.beside; has = has; got = _; gone = _; keeps = keeps_after } in
       let later = walk-serial next to (serial_after filled operation) (kept_after depth kept (filled_in filled operation) operation) operations results plain.1
       ranges.1 unspent.1 unrefusing all_used walks stands_after in
       record {
         outcomes =
-            ap (λ o. o ∷ map without_place results) (serial.outcome_is summed)
+            ap (λ o. o ∷ map without_place results) (serial.outcome_is now)
             ∙ ap (λ os. serial_outcome (filled_in filled operation) operation ∷ os) later.outcomes;
         balance = λ f. omega (
           arith,

@@ -12,7 +12,7 @@ use Rattle.lane_outcomes.specs.declared.registers.HeldBlock.{HeldBlock}
 use Rattle.lane_outcomes.specs.Lane.{held_in}
 use Rattle.lane_outcomes.specs.LaneCounts.{as_one}
 use Rattle.lane_outcomes.proofs.HoldLemmas.{HoldsOnce}
-use Rattle.lane_outcomes.proofs.KeepingLemmas.{KeepsAt}
+use Rattle.lane_outcomes.proofs.FollowLemmas.{KeepsAt}
 use Rattle.lane_outcomes.proofs.SlotLemmas.{slot-held, slots}
 use Rattle.roomy_traces.proofs.LaneLemmas.{HasMoment}
 use Rattle.roomy_traces.proofs.ContentLemmas.{AtMoments, HasContents}
@@ -31,7 +31,7 @@ once-registers kept registers once r q held other at_r at_q differ =
 pub once-kept :
     (history : List Event) (caller : ℕ) (done : List Event) (kept : List HeldBlock) (registers : List (Option HeldBlock)) (got gone : ℕ)
     → KeepsAt as_one history caller done kept registers got gone → HasMoment caller history done → HoldsOnce (slots kept registers)
-once-kept history caller done kept registers got gone keeps moment = (keeps.at moment.0 moment.1 moment.2).holds.once
+once-kept history caller done kept registers got gone keeps moment = (keeps moment.0 moment.1 moment.2).holds.once
 
 -- a register behind the blocks that are kept is set
 pub set-here :

@@ -1,5 +1,5 @@
 -- No lane of a trace that is roomy through caches is refused.
-use Rattle.std.proofs.Common.{ℕ, count_by, get_or, ◌+◌, ◌<◌, ◌≤◌, List, [], ◌∷◌, length, refl, sym, ◌∙◌, subst, arith}
+use Rattle.std.proofs.Common.{ℕ, count_by, get_or, ◌+◌, ◌<◌, ◌≤◌, List, [], ◌∷◌, length, sym, ◌∙◌, subst, arith}
 use Rattle.std.specs.Prelude.{flat_map}
 use Rattle.std.specs.List.{AllByRecursion}
 use Rattle.std.proofs.lemmas.List.{length-replicate}
@@ -19,12 +19,14 @@ use Rattle.lane_outcomes.specs.Rows.{Setting}
 use Rattle.lane_outcomes.specs.Standing.{setting_in}
 use Rattle.roomy_traces.specs.Roomy.{IsPlain, no_blocks}
 use Rattle.roomy_traces.specs.Through.{IsRoomyThrough, most_kept, none_kept}
-use Rattle.roomy_traces.proofs.LaneLemmas.{all-append, own-begins}
+use Rattle.roomy_traces.proofs.LaneLemmas.{own-begins}
+use Rattle.lane_outcomes.proofs.WalkLemmas.{all-append, all-frees}
 use Rattle.roomy_traces.proofs.PieceLemmas.{IsTame}
 use Rattle.roomy_traces.proofs.MostHeldLemmas.{IsUnrefusing}
-use Rattle.roomy_traces.proofs.RefuseLemmas.{alike-start, lane-ranges, none-refused}
+use Rattle.roomy_traces.proofs.RefuseLemmas.{lane-ranges, none-refused}
+use Rattle.roomy_traces.proofs.RegisterLemmas.{alike-start}
 use Rattle.roomy_traces.proofs.through_lemmas.MagazineLemmas.{start-counts}
-use Rattle.roomy_traces.proofs.through_lemmas.CountLemmas.{cached-tame, frees-all, needs-start}
+use Rattle.roomy_traces.proofs.through_lemmas.CountLemmas.{cached-tame, needs-start}
 use Rattle.roomy_traces.proofs.through_lemmas.MostKeptLemmas.{IsBeside, walk-holds_through}
 use Rattle.roomy_traces.proofs.through_lemmas.UnspentLemmas.{never-spent_through, plain-through}
 use Rattle.lane_outcomes.proofs.LanesLemmas.{cached-lane}
@@ -33,7 +35,7 @@ use Rattle.lane_outcomes.proofs.LanesLemmas.{cached-lane}
 pub beside-start : IsBeside cached_start no_blocks none_kept
 beside-start =
     let none : List ℕ = [] in
-    record { alike = alike-start; needs = needs-start REGISTERS; long = length-replicate CLASSES none; counts = start-counts; fresh = refl }
+    record { alike = alike-start; needs = needs-start REGISTERS; long = length-replicate CLASSES none; counts = start-counts }
 
 -- a lane's events refuse small needs alone
 walk-tame_through :
@@ -56,7 +58,7 @@ module _ (trace : Trace) (history : List Event) (lost depth : ℕ) (outcomes : L
       (all-append IsTame end.base.done (emptying k end.magazines)
       (walk-tame_through (setting_in history k trace.heap.turn_limit lost) depth cached_start end (get_or trace.lanes k []) (get_or outcomes k [])
       (plain-through depth trace roomy k below) fits.1.walks tt)
-      (frees-all IsTame k (flat_map (λ magazine. magazine) end.magazines) (λ place. tt)))
+      (all-frees IsTame k (flat_map (λ magazine. magazine) end.magazines) (λ place. tt)))
 
   -- up to a refusal a lane's events leave it and its magazines at most their most blocks
   most-through :

@@ -15,8 +15,7 @@ use Rattle.trace_text.specs.declared.trace.Trace.{Trace}
 use Rattle.lane_outcomes.specs.Lane.{held_in}
 use Rattle.lane_outcomes.specs.Deeds.{deed_of, register_of}
 use Rattle.lane_outcomes.specs.declared.outcome.Outcome.{Outcome}
-use Rattle.lane_outcomes.specs.declared.outcome.Outcome.TheVariants as outcome
-use Rattle.lane_outcomes.specs.Cached.{CachedFits, CachedLanesFit, CachedOutcomesFit, CachedPosition, CachedRow, CachedWalks, answered_by, cached_after, cached_start, served_for}
+use Rattle.lane_outcomes.specs.Cached.{CachedFits, CachedLanesFit, CachedOutcomesFit, CachedPosition, CachedWalks, answered_by, cached_after, cached_start, served_for}
 use Rattle.lane_outcomes.specs.Magazines.{emptying}
 use Rattle.lane_outcomes.specs.Rows.{Setting, gives_another_small}
 use Rattle.lane_outcomes.specs.Standing.{setting_in}
@@ -24,8 +23,8 @@ use Rattle.lane_outcomes.proofs.KeptLemmas.{magazines-long}
 use Rattle.roomy_traces.specs.Roomy.{IsPlain, may_allocate}
 use Rattle.roomy_traces.specs.Through.{IsRoomyThrough}
 use Rattle.roomy_traces.proofs.LaneLemmas.{count-begins}
-use Rattle.roomy_traces.proofs.SpentLemmas.{AreFewOthers, IsUnspent, answered-step, asks, few-others, given-asked, row-unspent, spent-stays}
-use Rattle.roomy_traces.proofs.through_lemmas.BareLemmas.{row-spent}
+use Rattle.roomy_traces.proofs.SpentLemmas.{AreFewOthers, IsUnspent, answered-step, few-others, given-asked, row-unspent, spent-stays}
+use Rattle.roomy_traces.proofs.SerialRows.{asks}
 use Rattle.roomy_traces.proofs.through_lemmas.CountLemmas.{AreNeeds, cached-counts, emptying-none, needs-after, needs-start}
 use Rattle.lane_outcomes.proofs.LanesLemmas.{cached-lane}
 
@@ -82,14 +81,6 @@ answered-by_step :
 answered-by_step None answered operation result = answered-step answered operation result
 answered-by_step (Some place) answered operation result = omega arith
 
-row-unspent_through :
-    (setting : Setting) (depth : ℕ) (position : CachedPosition) (others : ℕ) (operation : Op) (result : Outcome) (piece : List Event) → IsPlain operation
-    → AreFewOthers setting others → position.base.answered + asks operation + others ≤ setting.turn_limit → position.base.spent ≡ false
-    → CachedRow setting depth position operation result piece → IsUnspent result
-row-unspent_through setting depth position others operation outcome.Spent piece plain few room fresh row =
-    row-unspent setting position.base others operation outcome.Spent piece few room fresh (row-spent setting depth position operation piece row)
-row-unspent_through setting depth position others operation result piece plain few room fresh row = tt
-
 walk-unspent_through :
     (setting : Setting) (depth others : ℕ) (from to : CachedPosition) (operations : List Op) (results : List Outcome) → AllByRecursion IsPlain operations
     → AreFewOthers setting others → from.base.answered + count_by may_allocate operations + others ≤ setting.turn_limit → from.base.spent ≡ false
@@ -101,7 +92,7 @@ walk-unspent_through setting depth others from to (operation ∷ operations) (re
     let all : count_by may_allocate (operation ∷ operations) ≡ asks operation + count_by may_allocate operations =
     sum_by-cons (λ o. cond (may_allocate o) 1 0) operation operations in
     let here : IsUnspent result =
-    row-unspent_through setting depth from others operation result walks.0 plain.0 few (omega (arith, room, all)) fresh walks.1 in
+    row-unspent setting depth from others operation result walks.0 few (omega (arith, room, all)) fresh walks.1 in
     let next : CachedPosition = cached_after depth from operation result walks.0 in
     let step : next.base.answered ≤ from.base.answered + asks operation =
     answered-by_step (served_for from.magazines operation result) from.base.answered operation result in (

@@ -3,8 +3,7 @@
 ghost use Rattle.std.specs.Prelude.{◌≡◌, ◌<◌, ◌↔◌, length, Some, None, slice_set, IsTrue, IsSome};
 ghost use Rattle.std.specs.List.{slice_index_or};
 ghost use Rattle.std.specs.Option.{option_map};
-ghost use Rattle.trace_lane.specs.Doing.{held_there};
-ghost use Rattle.trace_lane.specs.Made.{IsUnasked};
+ghost use Rattle.trace_lane.specs.Made.{IsUnasked, held_there};
 ghost use Rattle.trace_lane.specs.Paths.{held_by};
 
 use heap_geometry::need::{Need, class_of};

@@ -5,7 +5,7 @@ use Rattle.errand_steps.specs.Calls.{alloc}
 use Rattle.live_heap.specs.declared.answers.AllocAnswer.{AllocAnswer}
 use Rattle.live_heap.specs.declared.block.Block.{Block}
 use Rattle.block_cache.specs.Whole.{EndsAs}
-use Rattle.lane_engine.proofs.ThroughLemmas.{alloc-resumes, busy-asks, keeps-depth, keeps-on}
+use Rattle.lane_engine.proofs.ThroughLemmas.{alloc-resumes, busy-asks, resumed-call}
 use Rattle.lane_engine.proofs.over_cache.allocate.Goals as goal
 
 pub unreachable-requires-in_default : goal.unreachable-requires-in_default
@@ -47,42 +47,30 @@ returns-in-Spent g c = (
 pub returns-in-Given-go_on : goal.returns-in-Given-go_on
 returns-in-Given-go_on g c =
     let before = c.args.cache.now in
-    let after = c.go_on.new.cache in
+    let b = c.in-Given-go_on.block in
     let asks = busy-asks before c.args.need c.alloc.new.self c.alloc.result c.in-Busy.is c.alloc.ensures.served in
-    let told = c.in-Busy.ensures.asked asks in
-    let over = told.0 in
-    let keeps = keeps-on before c.alloc.new.self after told.1 c.go_on.ensures.keeps in
-    let b = c.in-Given-go_on.block in (
-      c.ended_calls_are_whole.ensures.asked c.args.heap.now before after (alloc c.args.need) (reply.Given b.place b.need) c.requires.rests
-          c.go_on.ensures.rests.0 asks (c.in-Given-go_on.ensures.ended before.pass (alloc c.args.need) (suc over.steps)
-          c.requires.rests.0.hand.of over.calling) keeps,
-      keeps-depth before after keeps,
-    )
+    let (over, keeps) = c.in-Busy.ensures.asked asks in
+    resumed-call c.args.heap.now before c.alloc.new.self c.go_on.new.cache (alloc c.args.need) (reply.Given b.place b.need) c.requires.rests
+    c.go_on.ensures.rests.0 asks
+    (c.in-Given-go_on.ensures.ended before.pass (alloc c.args.need) (suc over.steps) c.requires.rests.0.hand.of over.calling) keeps
+    c.go_on.ensures.keeps
 
 pub returns-in-Refused-go_on : goal.returns-in-Refused-go_on
 returns-in-Refused-go_on g c =
     let before = c.args.cache.now in
-    let after = c.go_on.new.cache in
     let asks = busy-asks before c.args.need c.alloc.new.self c.alloc.result c.in-Busy.is c.alloc.ensures.served in
-    let told = c.in-Busy.ensures.asked asks in
-    let over = told.0 in
-    let keeps = keeps-on before c.alloc.new.self after told.1 c.go_on.ensures.keeps in (
-      c.ended_calls_are_whole.ensures.asked c.args.heap.now before after (alloc c.args.need) reply.Refused c.requires.rests c.go_on.ensures.rests.0
-          asks (c.in-Refused-go_on.ensures.ended before.pass (alloc c.args.need) (suc over.steps)
-          c.requires.rests.0.hand.of over.calling) keeps,
-      keeps-depth before after keeps,
-    )
+    let (over, keeps) = c.in-Busy.ensures.asked asks in
+    resumed-call c.args.heap.now before c.alloc.new.self c.go_on.new.cache (alloc c.args.need) reply.Refused c.requires.rests
+    c.go_on.ensures.rests.0 asks
+    (c.in-Refused-go_on.ensures.ended before.pass (alloc c.args.need) (suc over.steps) c.requires.rests.0.hand.of over.calling) keeps
+    c.go_on.ensures.keeps
 
 pub returns-in-Spent-go_on : goal.returns-in-Spent-go_on
 returns-in-Spent-go_on g c =
     let before = c.args.cache.now in
-    let after = c.go_on.new.cache in
     let asks = busy-asks before c.args.need c.alloc.new.self c.alloc.result c.in-Busy.is c.alloc.ensures.served in
-    let told = c.in-Busy.ensures.asked asks in
-    let over = told.0 in
-    let keeps = keeps-on before c.alloc.new.self after told.1 c.go_on.ensures.keeps in (
-      c.ended_calls_are_whole.ensures.asked c.args.heap.now before after (alloc c.args.need) reply.Spent c.requires.rests c.go_on.ensures.rests.0
-          asks (c.in-Spent-go_on.ensures.ended before.pass (alloc c.args.need) (suc over.steps)
-          c.requires.rests.0.hand.of over.calling) keeps,
-      keeps-depth before after keeps,
-    )
+    let (over, keeps) = c.in-Busy.ensures.asked asks in
+    resumed-call c.args.heap.now before c.alloc.new.self c.go_on.new.cache (alloc c.args.need) reply.Spent c.requires.rests
+    c.go_on.ensures.rests.0 asks
+    (c.in-Spent-go_on.ensures.ended before.pass (alloc c.args.need) (suc over.steps) c.requires.rests.0.hand.of over.calling) keeps
+    c.go_on.ensures.keeps

@@ -3,7 +3,7 @@ use Rattle.errand_steps.specs.declared.reply.Reply.TheVariants as reply
 use Rattle.errand_steps.specs.Calls.{Call, free}
 use Rattle.live_heap.specs.declared.answers.FreeAnswer.{FreeAnswer}
 use Rattle.live_heap.specs.Answers.{FreeTells}
-use Rattle.lane_engine.proofs.ThroughLemmas.{free-resumes, keeps-depth, keeps-on, unkept-asks}
+use Rattle.lane_engine.proofs.ThroughLemmas.{free-resumes, resumed-call, unkept-asks}
 use Rattle.lane_engine.proofs.over_cache.free_block.Goals as goal
 
 pub returns-in-Freed : goal.returns-in-Freed
@@ -24,15 +24,9 @@ returns-in-Busy g c =
     let b = c.args.block in
     let before = c.args.cache.now in
     let after = c.go_on.new.cache in
+    let call : Call = free b.place b.need in
     let asks = unkept-asks before b c.free.new.self c.free.result c.in-Busy.is c.free.ensures.kept in
-    let told = c.in-Busy.ensures.asked asks in
-    let over = told.0 in
-    let keeps = keeps-on before c.free.new.self after told.1 c.go_on.ensures.keeps in
-    let call : Call = free b.place b.need in (
-      c.ended_calls_are_whole.ensures.asked c.args.heap.now before after call reply.Freed c.requires.rests c.go_on.ensures.rests.0
-          (asks, c.requires.held)
-          (free-resumes before.pass b.place b.need c.go_on.result after.pass (c.go_on.ensures.ended before.pass call (suc over.steps) c.requires.rests.0.hand.of
-          over.calling))
-          keeps,
-      keeps-depth before after keeps,
-    )
+    let (over, keeps) = c.in-Busy.ensures.asked asks in
+    resumed-call c.args.heap.now before c.free.new.self after call reply.Freed c.requires.rests c.go_on.ensures.rests.0 (asks, c.requires.held)
+    (free-resumes before.pass b.place b.need c.go_on.result after.pass
+    (c.go_on.ensures.ended before.pass call (suc over.steps) c.requires.rests.0.hand.of over.calling)) keeps c.go_on.ensures.keeps

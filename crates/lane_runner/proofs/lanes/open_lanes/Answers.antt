@@ -4,11 +4,11 @@ use Rattle.trace_text.specs.declared.trace.Op.{Op}
 use Rattle.trace_text.specs.Traces.{IsOp}
 use Rattle.lane_outcomes.proofs.LanesLemmas.{lane-each}
 use Rattle.trace_lane.specs.States.{IsNew}
-use Rattle.lane_runner.proofs.DrivenLemmas.{lane-is, new-all, new-more, new-none}
+use Rattle.lane_runner.proofs.DrivenLemmas.{lane-is, new-more, new-none}
 use Rattle.lane_runner.proofs.lanes.open_lanes.Goals as goal
 
 pub loop-lane-init : goal.loop-lane-init
-loop-lane-init g c = new-none c.in_ok-lanes.lanes.items c.in_ok-lanes.ensures.items
+loop-lane-init g c = new-none c.args.trace.now.lanes c.in_ok-lanes.lanes.items c.in_ok-lanes.ensures.items
 
 pub open-requires : goal.open-requires
 open-requires g c =
@@ -30,12 +30,14 @@ loop-lane-preserved g c =
     c.in_ok-push.ensures.items
 
 pub returns : goal.returns
-returns g c =
-    new-all c.args.trace.now.lanes c.loop-lane.lane c.loop-lane.lanes.items
-    (omega (
-      arith,
-      c.loop-lane-test.false,
-      length-map c.as_slice-operations-items.result.now (λ (lane : Vec Op Global). lane.items),
-      ap length c.as_slice-operations-items.ensures,
-    ))
-    c.loop-lane.invariant
+returns g c = record {
+  all =
+      c.loop-lane.invariant.all
+      ∙ omega (
+        arith,
+        c.loop-lane-test.false,
+        length-map c.as_slice-operations-items.result.now (λ (lane : Vec Op Global). lane.items),
+        ap length c.as_slice-operations-items.ensures,
+      );
+  each = c.loop-lane.invariant.each;
+}

@@ -1,7 +1,8 @@
-use Rattle.std.proofs.Common.{take}
-use Rattle.lane_runner.specs.Running.{HaveFollowed}
+use Rattle.std.proofs.Common.{drop, length}
+use Rattle.lane_runner.specs.Orders.{InOrder}
+use Rattle.lane_runner.specs.Running.{HaveRunBefore}
 use Rattle.lane_runner.proofs.run_core.follow_runs.Given as goal
 
 abbrev pub invariant-loop-run : goal.invariant-loop-run
 invariant-loop-run g l =
-    HaveFollowed (g.G.Gate.passed l.gate) l.trace (take l.run-index l.run-items) l.initial.core l.core l.initial.lanes.items l.lanes.items
+    HaveRunBefore (g.G.Gate.passed l.gate) l.trace (InOrder (drop l.run-index l.run-items) (length l.trace.lanes)) l.core l.lanes.items

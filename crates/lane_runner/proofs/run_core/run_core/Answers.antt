@@ -1,24 +1,23 @@
+use Rattle.std.proofs.lemmas.Result.{IfOk-weaker}
 use Rattle.lane_outcomes.specs.Passed.{AllPassed}
-use Rattle.lane_runner.proofs.DrivenLemmas.{all-passed, driven, opened-stand, so-far, so-none, stopped, told-driven, told-passed}
-use Rattle.lane_runner.proofs.StopLemmas.{finished-so, on-err}
+use Rattle.lane_runner.proofs.DrivenLemmas.{all-passed, driven, driven-so-far, opened-run, so-none, told-driven}
+use Rattle.lane_runner.proofs.OrderLemmas.{on-err}
 use Rattle.lane_runner.proofs.run_core.run_core.Goals as goal
 
-pub follow_runs-requires-clause-stand : goal.follow_runs-requires-clause-stand
-follow_runs-requires-clause-stand g c =
-    opened-stand c.args.trace.now c.args.core.now c.in_ok-lanes.lanes.items c.requires.trace c.requires.opened c.steps.ensures.rule
-    c.in_ok-lanes.ensures
+pub follow_runs-requires-clause-run : goal.follow_runs-requires-clause-run
+follow_runs-requires-clause-run g c =
+    opened-run (g.G.Gate.passed c.args.gate.now) c.args.trace.now c.args.core.now c.in_ok-lanes.lanes.items c.requires.trace c.requires.opened
+    c.steps.ensures.rule c.in_ok-lanes.ensures
 
 pub returns-clause-driven : goal.returns-clause-driven
 returns-clause-driven g c =
     told-driven c.args.trace.now c.finish_lanes.new.core c.finish_lanes.new.lanes.items c.outcomes_of.result
-    (driven c.requires.trace c.requires.opened c.steps.ensures.rule c.in_ok-lanes.ensures c.in_ok-follow_runs.ensures.ran
-    c.in_ok-finish_lanes.ensures.ran) c.outcomes_of.ensures
+    (driven c.requires.trace c.in_ok-finish_lanes.ensures.ran) c.outcomes_of.ensures
 
 pub returns-clause-passed : goal.returns-clause-passed
 returns-clause-passed g c =
-    told-passed (AllPassed (g.G.Gate.passed c.args.gate.now) c.args.trace.now.lanes) c.outcomes_of.result
-    (all-passed c.requires.trace c.requires.opened c.steps.ensures.rule c.in_ok-lanes.ensures c.in_ok-follow_runs.ensures.ran
-    c.in_ok-finish_lanes.ensures.ran)
+    IfOk-weaker c.outcomes_of.result _ (λ outcomes. AllPassed (g.G.Gate.passed c.args.gate.now) c.args.trace.now.lanes)
+    (λ outcomes are. all-passed c.requires.trace c.in_ok-finish_lanes.ensures.ran) c.outcomes_of.ensures
 
 pub returns-in_err-lanes-clause-stopped : goal.returns-in_err-lanes-clause-stopped
 returns-in_err-lanes-clause-stopped g c =
@@ -26,17 +25,12 @@ returns-in_err-lanes-clause-stopped g c =
 
 pub returns-in_err-follow_runs-clause-stopped : goal.returns-in_err-follow_runs-clause-stopped
 returns-in_err-follow_runs-clause-stopped g c =
-    on-err c.from_residual-in_err-follow_runs.result _
-    (so-far c.requires.trace c.requires.opened c.steps.ensures.rule c.in_ok-lanes.ensures c.in_err-follow_runs.ensures.stopped)
+    on-err c.from_residual-in_err-follow_runs.result _ c.in_err-follow_runs.ensures.stopped
 
 pub returns-in_err-finish_lanes-clause-stopped : goal.returns-in_err-finish_lanes-clause-stopped
 returns-in_err-finish_lanes-clause-stopped g c =
-    on-err c.from_residual-in_err-finish_lanes.result _
-    (stopped c.requires.trace c.requires.opened c.steps.ensures.rule c.in_ok-lanes.ensures c.in_ok-follow_runs.ensures.ran
-    c.in_err-finish_lanes.ensures.stopped)
+    on-err c.from_residual-in_err-finish_lanes.result _ c.in_err-finish_lanes.ensures.stopped
 
 pub returns-clause-stopped : goal.returns-clause-stopped
 returns-clause-stopped g c =
-    on-err c.outcomes_of.result _
-    (stopped c.requires.trace c.requires.opened c.steps.ensures.rule c.in_ok-lanes.ensures c.in_ok-follow_runs.ensures.ran
-    (finished-so c.in_ok-finish_lanes.ensures.ran))
+    on-err c.outcomes_of.result _ (driven-so-far c.requires.trace c.in_ok-finish_lanes.ensures.ran)

@@ -1,7 +1,7 @@
 use Rattle.std.proofs.Common.{◌≡◌, ◌+◌, if◌then◌else◌, Bool, Ok, ap, ◌∙◌, subst, arith}
 use Rattle.lane_runner.specs.Running.{HasRun}
 use Rattle.lane_runner.proofs.RunLemmas.{ran-none, next-ran}
-use Rattle.lane_runner.proofs.StopLemmas.{on-err}
+use Rattle.lane_runner.proofs.OrderLemmas.{on-err}
 use Rattle.lane_runner.proofs.run_core.run_some.Goals as goal
 
 pub loop-step-init : goal.loop-step-init

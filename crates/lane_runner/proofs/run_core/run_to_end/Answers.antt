@@ -2,7 +2,7 @@ use Rattle.std.proofs.Common.{◌+◌, if◌then◌else◌, Bool, Ok, ap, subst}
 use Rattle.trace_lane.specs.Advances.{AdvancesOn}
 use Rattle.lane_runner.proofs.RunLemmas.{ran-none, next-ran}
 use Rattle.lane_runner.proofs.RunMeasures.{advance-falls}
-use Rattle.lane_runner.proofs.StopLemmas.{on-err}
+use Rattle.lane_runner.proofs.OrderLemmas.{on-err}
 use Rattle.lane_runner.proofs.run_core.run_to_end.Goals as goal
 
 pub loop-init : goal.loop-init

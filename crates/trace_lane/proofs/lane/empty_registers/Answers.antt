@@ -1,5 +1,5 @@
 use Rattle.std.proofs.Common.{ℕ, ◌≡◌, None, replicate, ap, ◌∙◌, arith}
-use Rattle.trace_text.specs.declared.limits.TheConstants.{REGISTERS}
+use Rattle.trace_lane.proofs.Common.{REGISTERS}
 use Rattle.trace_lane.proofs.lane.empty_registers.Goals as goal
 
 pub returns : goal.returns

@@ -1,4 +1,4 @@
-use Rattle.std.proofs.Common.{suc, ◌≡◌, max, List, [], ◌∷◌, length, length-append, sym, ap, ◌∙◌, subst, arith, ◌+◌}
+use Rattle.std.proofs.Common.{suc, ◌≡◌, List, [], ◌∷◌, length, length-append, sym, ap, ◌∙◌, subst, arith, ◌+◌}
 use Rattle.typed_store.specs.declared.slot.Slot.{Slot}
 use Rattle.typed_store.specs.declared.slot.Slot.TheVariants.{Spare}
 use Rattle.typed_store.specs.Nodes.{IsSpare, nodes_at, tokens_in}

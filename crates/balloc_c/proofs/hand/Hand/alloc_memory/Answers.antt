@@ -1,6 +1,5 @@
-use Rattle.std.proofs.Common.{◌≡◌, Ok, refl, ap, ◌∙◌, subst, inl, inr}
+use Rattle.std.proofs.Common.{◌≡◌, Ok, refl, subst, inl, inr}
 use Rattle.live_heap.specs.Heaps.{HeapFields}
-use Rattle.shared_heap.specs.declared.shared.SharedHeap.{SharedHeap}
 use Rattle.balloc_c.specs.Hands.{heap_of}
 use Rattle.balloc_c.specs.Lending.{GivesAgain}
 use Rattle.balloc_c.proofs.Packing.{few-same}
@@ -11,7 +10,7 @@ returns-in-Some c =
     let hand = c.args.self.now in
     let told = c.give_again in
     let number = told.new.id in
-    let same : c.heap.result.now ≡ heap_of hand = c.heap.ensures ∙ ap (λ (shared : SharedHeap). shared.heap) c.deref.ensures in
+    let same : c.heap.result.now ≡ heap_of hand = c.heap.ensures in
     let again = subst
     (λ (h : HeapFields). GivesAgain h hand.cache hand.table c.args.bytes number told.result.memory told.result.words hand.cache told.new.table)
     same (told.ensures.again c.in-Some.ensures.ready.0) in

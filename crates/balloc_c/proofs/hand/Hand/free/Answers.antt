@@ -1,6 +1,5 @@
-use Rattle.std.proofs.Common.{◌≡◌, refl, ap, ◌∙◌, subst}
+use Rattle.std.proofs.Common.{◌≡◌, refl, subst}
 use Rattle.live_heap.specs.Heaps.{HeapFields}
-use Rattle.shared_heap.specs.declared.shared.SharedHeap.{SharedHeap}
 use Rattle.balloc_c.specs.Hands.{heap_of}
 use Rattle.balloc_c.specs.Lending.{FreesBack}
 use Rattle.balloc_c.proofs.hand.Hand.free.Goals as goal
@@ -9,7 +8,7 @@ pub returns : goal.returns
 returns c =
     let told = c.free_back.ensures.answers in
     let hand = c.args.self.now in
-    let same : c.heap.result.now ≡ heap_of hand = c.heap.ensures ∙ ap (λ (shared : SharedHeap). shared.heap) c.deref.ensures in
+    let same : c.heap.result.now ≡ heap_of hand = c.heap.ensures in
     let freed = subst
     (λ (h : HeapFields). FreesBack h hand.cache hand.table c.args.number c.args.back.words told.0 c.free_back.result.words c.free_back.new.cache c.free_back.new.table)
     same told.3 in

@@ -2,7 +2,7 @@ use Rattle.std.proofs.Common.{◌≡◌, ◌/◌, refl, sym, subst, ap}
 use mathlib.Core.Logic.{∥∥₁_prop}
 use Rattle.live_heap.specs.Heaps.{HeapFields}
 use Rattle.memory_cache.specs.declared.paged.PagedCache.{PagedCache}
-use Rattle.memory_cache.specs.Paged.{GoesBehind, IsPaged}
+use Rattle.memory_cache.specs.Paged.{ActsBehind, GoesBehind, IsPaged}
 use Rattle.balloc_malloc.specs.declared.tenant.TheConstants.{TRIES}
 use Rattle.balloc_malloc.specs.declared.tenant.Tenant.{Tenant}
 use Rattle.balloc_malloc.specs.Tenants.{heap_of}
@@ -16,6 +16,7 @@ returns-in-Ok-clause-back c none =
         keeps = c.take_back.ensures.keeps;
         only = c.in-Ok.ensures.only;
         behind = subst (λ (h : HeapFields). GoesBehind h before.cache (c.args.returned.first / 2048) TRIES c.take_back.new.self) c.deref.ensures c.take_back.ensures.behind;
+        sends = λ last. subst (λ (h : HeapFields). ActsBehind h before.cache (c.args.returned.first / 2048) TRIES c.take_back.new.self) c.deref.ensures (c.in-Ok.ensures.sends last);
         hits = c.take_back.ensures.hits;
         heap = refl;
       },

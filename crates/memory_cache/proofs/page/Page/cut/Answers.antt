@@ -1,10 +1,12 @@
-use Rattle.std.proofs.Common.{◌≡◌, ◌≤◌, ◌<◌, ◌+◌, ◌-◌, ◌*◌, ◌/◌, ◌∙◌, ap, arith, length, subst, sym}
+use Rattle.std.proofs.Common.{◌≡◌, ◌≤◌, ◌<◌, ◌+◌, ◌-◌, ◌*◌, ◌/◌, ◌∙◌, ap, arith, length, refl, subst, sym, ℕ}
 use Rattle.std.proofs.lemmas.List.{length_push}
 use Rattle.heap_geometry.specs.Need.{usable_words}
+use Rattle.plain_words.specs.declared.plain.PlainWords.{PlainWords}
 use Rattle.memory_cache.specs.declared.page.Slot.{Slot}
 use Rattle.memory_cache.specs.declared.page.Slot.TheVariants.{Home}
 use Rattle.memory_cache.specs.Pages.{AreHere, IsSlot}
-use Rattle.memory_cache.proofs.PageLemmas.{first-here, home-in, homes-more, one-more, others-here, pieces-few, slots-more, within-words}
+use Rattle.memory_cache.proofs.ChainLemmas.{chain-all}
+use Rattle.memory_cache.proofs.PageLemmas.{each-more, first-here, home-in, homes-more, one-more, others-here, pieces-few, slots-more, within-words}
 use Rattle.memory_cache.proofs.page.Page.cut.Goals as goal
 
 pub overflow_cast-number-end : goal.overflow_cast-number-end
@@ -39,7 +41,25 @@ loop-number-preserved g c =
       room = subst (λ n. c.usable_words.result / size ≤ n) (sym c.push_reserved.ensures.capacity) i.room;
       slots = slots-more slots more slot number i.long items (λ k s. IsSlot g.h (c.place-place.result + k * size + 1) size s) i.slots here;
       home = homes-more slots more slot number i.long items i.home (home-in piece (number + 1));
+      next =
+          each-more slots more slot number i.long items (λ k s. (words : PlainWords) × (s ≡ Home words (k + 1))) i.next (piece, refl);
       rest =
           others-here g.h first left size (c.place-place.result + (number + 1) * size + 1) (usable_words need - (number + 1) * size) c.loop-number.rest others
           (omega (arith, one-more number size)) (omega (arith, one-more number size)) i.rest x.others.0 x.others.1 x.others.2;
     }
+
+pub invariant_of-result-clause-few : goal.invariant_of-result-clause-few
+invariant_of-result-clause-few g c =
+    let m = c.args.memory in
+    let i = c.loop-number.invariant in
+    let few : usable_words m.block.need / c.args.size < 2048 = pieces-few c.args.size m.block.place m.block.need c.requires.1 in
+    let same : c.usable_words.result / c.args.size ≡ usable_words m.block.need / c.args.size = ap (λ n. n / c.args.size) c.usable_words.ensures in
+    omega (arith, few, same, i.long, c.loop-number.auto.number-end)
+
+pub invariant_of-result-clause-chained : goal.invariant_of-result-clause-chained
+invariant_of-result-clause-chained g c =
+    let i = c.loop-number.invariant in
+    let slots = c.loop-number.slots.items in
+    let count : ℕ = c.usable_words.result / c.args.size in
+    let all : length slots ≡ count = omega (arith, i.long, c.loop-number.auto.number-end, c.loop-number-test.false) in
+    chain-all count slots all (λ n within. i.next n (omega (arith, within, all, i.long)))

@@ -2,7 +2,9 @@ use Rattle.std.proofs.Common.{◌≡◌, ℕ, ◌<◌, ◌/◌, Some, length, sy
 use Rattle.std.specs.Vec.{with_item}
 use Rattle.memory_cache.specs.declared.paged.PagedCache.{PagedCache}
 use Rattle.memory_cache.specs.Paged.{HasCut}
-use Rattle.memory_cache.specs.Pages.{IsCut, IsPage, Pops}
+use Rattle.heap_geometry.specs.Need.{usable_words}
+use Rattle.memory_cache.specs.Pages.{IsCut, IsPage, Pops, count_of}
+use Rattle.memory_cache.proofs.PageLemmas.{some-pieces}
 use Rattle.memory_cache.proofs.TableLemmas.{cut-table, pages-is}
 use Rattle.memory_cache.proofs.TakenPages.{not-err}
 use Rattle.memory_cache.proofs.paged.PagedCache.cut.Goals as goal
@@ -36,3 +38,11 @@ returns-clause-cut g c =
         sized,
       )
     ]
+
+pub unreachable-requires : goal.unreachable-requires
+unreachable-requires g c =
+    let page = c.in_ok-page.page in
+    let cut = c.in_ok-page.ensures.page in
+    let whole : IsPage g.h page = cut.0 in
+    let some : 0 < count_of page = subst (λ n. 0 < n) (sym whole.count) (some-pieces page.size (usable_words page.need) whole.some whole.fits) in
+    cut.1.home 0 some ((c.pop.ensures.none c.in_default.is).1 0)

@@ -96,8 +96,8 @@ returns-clause-same g c =
     (get_or-set_same s.pages.items k c.take.new.self None within ∙ c.take.ensures.after)
     (λ j ne. get_or-set_other s.pages.items k j c.take.new.self None ne) (c.give.ensures.caller ∙ c.settled.ensures.caller)
 
-pub returns-clause-behind : goal.returns-clause-behind
-returns-clause-behind g c =
+pub returns-clause-sends : goal.returns-clause-sends
+returns-clause-sends g c = λ whole.
     let s = c.args.self.now in
     let k = c.args.key in
     let mine = c.in-Some.page in
@@ -113,7 +113,6 @@ returns-clause-behind g c =
     comes-home q m c.give.result (inr (c.settled.ensures.idle c.if-not-settled.false)) (λ room. (c.give.ensures.kept room).0)
     (err-first c.give.result (IsBusy q.pass.errand) (HasSettled c.args.heap.now q.pass c.args.tries false c.give.new.self.pass) c.give.ensures.cause) in
     inr
-    (inr
     (record {
       page = mine;
       there = there;
@@ -127,4 +126,14 @@ returns-clause-behind g c =
         c.settled.ensures.same,
       );
       taken = takes-in c.args.heap.now g.h q m c.args.tries c.give.result c.give.new.self c.requires.0 done c.give.ensures.kept c.give.ensures.sent;
-    }))
+    })
+
+pub returns-clause-behind : goal.returns-clause-behind
+returns-clause-behind g c =
+    let s = c.args.self.now in
+    let at : page_at s c.args.key ≡ Some c.in-Some-Some.page =
+    sym (c.in-Some-Some.ensures.lookup.4 (omega arith) None ∙ ap (λ (l : List (Option Page)). slice_index_or l c.args.key None) c.deref.ensures.value)
+    ∙ c.in-Some-Some.field-0-is in
+    inr
+    (returns-clause-sends g c
+    (record { page = c.in-Some-Some.page; there = at; home = c.is_whole.ensures.yes c.if-not-is_whole.false }))

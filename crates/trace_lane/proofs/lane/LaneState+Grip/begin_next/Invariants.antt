@@ -1,6 +1,6 @@
 use Rattle.std.proofs.Common.{◌≡◌, false, length}
 use Rattle.trace_lane.specs.declared.stage.OperationStage.TheVariants as stage
-use Rattle.trace_lane.specs.Advances.{AdvancesOn}
+use Rattle.trace_lane.proofs.Common.{AdvancesOn}
 use Rattle.trace_lane.proofs.lane.LaneState+Grip.begin_next.Given as goal
 
 abbrev pub invariant-loop-op : goal.invariant-loop-op

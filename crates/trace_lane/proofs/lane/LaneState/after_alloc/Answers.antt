@@ -1,16 +1,10 @@
 use Rattle.std.proofs.Common.{◌≡◌, ◌<◌, Some, length, refl, sym, ap, ◌∙◌, subst, inl, arith, vec_capacity}
-use Rattle.std.proofs.lemmas.List.{length-set}
+use Rattle.trace_lane.proofs.Common.{HeldBlock, DoingOf, call_at, fills, held_there, length-set, held_in, word_behind, held_blocks, stage_begun}
 use Rattle.errand_steps.specs.declared.reply.Reply.TheVariants as reply
 use Rattle.errand_steps.specs.declared.told.Ending.TheVariants as ending
 use Rattle.trace_text.specs.declared.trace.Op.TheVariants as op
-use Rattle.lane_outcomes.specs.declared.registers.HeldBlock.{HeldBlock}
 use Rattle.lane_outcomes.specs.declared.outcome.Outcome.TheVariants as outcome
-use Rattle.lane_outcomes.specs.Lane.{held_in}
 use Rattle.trace_lane.specs.declared.stage.OperationStage.TheVariants as stage
-use Rattle.trace_lane.specs.Advances.{word_behind}
-use Rattle.trace_lane.specs.Doing.{DoingOf, call_at, fills, held_there}
-use Rattle.trace_lane.specs.Scripts.{stage_begun}
-use Rattle.trace_lane.specs.Paths.{held_blocks}
 use Rattle.trace_lane.proofs.DoingLemmas as doing
 use Rattle.trace_lane.proofs.PartLemmas.{answer-ends, answer-goes, blocks-size, read-held, set-block, staged}
 use Rattle.trace_lane.proofs.lane.LaneState.after_alloc.Goals as goal

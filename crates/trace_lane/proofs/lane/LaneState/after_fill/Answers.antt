@@ -1,12 +1,8 @@
 use Rattle.std.proofs.Common.{◌≡◌, Some, None, refl, sym, ap, ◌∙◌, inl}
 use Rattle.errand_steps.specs.declared.told.Ending.TheVariants as ending
-use Rattle.lane_outcomes.specs.declared.registers.HeldBlock.{HeldBlock}
+use Rattle.trace_lane.proofs.Common.{HeldBlock, held_in, word_behind, fills, held_there, held_blocks}
 use Rattle.lane_outcomes.specs.declared.outcome.Outcome.TheVariants as outcome
-use Rattle.lane_outcomes.specs.Lane.{held_in}
 use Rattle.trace_lane.specs.declared.stage.OperationStage.TheVariants as stage
-use Rattle.trace_lane.specs.Advances.{word_behind}
-use Rattle.trace_lane.specs.Doing.{fills, held_there}
-use Rattle.trace_lane.specs.Paths.{held_blocks}
 use Rattle.trace_lane.proofs.DoingLemmas as doing
 use Rattle.trace_lane.proofs.PartLemmas.{answer-ends, answer-goes, read-held, staged}
 use Rattle.trace_lane.proofs.lane.LaneState.after_fill.Goals as goal

@@ -1,7 +1,6 @@
 use Rattle.std.proofs.Common.{Some, length, ap, ◌∙◌}
-use Rattle.std.proofs.lemmas.List.{length-set}
+use Rattle.trace_lane.proofs.Common.{length-set, held_blocks}
 use Rattle.lane_outcomes.specs.declared.outcome.Outcome.TheVariants as outcome
-use Rattle.trace_lane.specs.Paths.{held_blocks}
 use Rattle.trace_lane.proofs.DoingLemmas as doing
 use Rattle.trace_lane.proofs.PartLemmas.{answer-ends, set-block}
 use Rattle.trace_lane.proofs.lane.LaneState.after_put.Goals as goal

@@ -1,7 +1,6 @@
 use Rattle.std.proofs.Common.{◌<◌, length, refl, sym, ap, subst}
-use Rattle.lane_outcomes.specs.declared.registers.HeldBlock.{HeldBlock}
+use Rattle.trace_lane.proofs.Common.{HeldBlock, held_blocks}
 use Rattle.lane_outcomes.specs.declared.outcome.Outcome.TheVariants as outcome
-use Rattle.trace_lane.specs.Paths.{held_blocks}
 use Rattle.trace_lane.proofs.DoingLemmas as doing
 use Rattle.trace_lane.proofs.PartLemmas.{answer-ends, blocks-size, read-held}
 use Rattle.trace_lane.proofs.lane.LaneState.after_resize.Goals as goal

@@ -1,12 +1,8 @@
 use Rattle.std.proofs.Common.{ℕ, ◌∷◌, ◌++◌, [], Some, length, refl, ap, ◌∙◌, inr}
-use Rattle.std.proofs.lemmas.List.{length-set}
-use Rattle.heap_geometry.specs.declared.need.Need.{Need}
-use Rattle.heap_geometry.specs.Need.{usable_words}
+use Rattle.trace_lane.proofs.Common.{Need, length-set, usable_words, take, held_blocks}
 use Rattle.errand_steps.specs.declared.told.Ending.TheVariants as ending
-use Rattle.errand_steps.specs.Calls.{take}
 use Rattle.lane_engine.specs.declared.begins.NextCall.TheVariants as next
 use Rattle.lane_outcomes.specs.declared.outcome.Outcome.TheVariants as outcome
-use Rattle.trace_lane.specs.Paths.{held_blocks}
 use Rattle.trace_lane.proofs.DoingLemmas as doing
 use Rattle.trace_lane.proofs.PartLemmas.{answer-ends, answer-goes, set-block}
 use Rattle.trace_lane.proofs.lane.LaneState.after_take.Goals as goal

@@ -1,12 +1,6 @@
 use Rattle.std.proofs.Common.{ℕ, ◌≡◌, List, [], None, length, refl, sym, ap, ◌∙◌, subst}
-use Rattle.std.specs.Prelude.{slice_set}
-use Rattle.std.proofs.lemmas.List.{length-set}
-use Rattle.heap_geometry.specs.declared.need.Need.{Need}
+use Rattle.trace_lane.proofs.Common.{Need, OnBlock, Made, frees, held_there, slice_set, length-set, held_blocks}
 use Rattle.trace_lane.specs.declared.stage.OperationStage.TheVariants as stage
-use Rattle.trace_lane.specs.Doing.{frees, held_there}
-use Rattle.trace_lane.specs.Paths.{held_blocks}
-use Rattle.trace_lane.specs.Made.{OnBlock}
-use Rattle.sound_laws.specs.events.Made.{Made}
 use Rattle.errand_steps.specs.Calls as calls
 use Rattle.trace_lane.proofs.PartLemmas.{begin-goes, set-held, slot-full}
 use Rattle.trace_lane.proofs.lane.LaneState.begin_free.Goals as goal

@@ -1,15 +1,9 @@
 use Rattle.std.proofs.Common.{◌≡◌, ◌<◌, Some, None, length, refl, sym, ap, ◌∙◌, subst, inl, arith, vec_capacity}
-use Rattle.std.specs.Prelude.{slice_set}
-use Rattle.std.proofs.lemmas.List.{length-set, set-set}
+use Rattle.trace_lane.proofs.Common.{HeldBlock, DoingOf, call_at, held_there, reads, slice_set, length-set, set-set, held_in, held_blocks, stage_begun}
 use Rattle.errand_steps.specs.declared.reply.Reply.TheVariants as reply
 use Rattle.errand_steps.specs.declared.told.Ending.TheVariants as ending
 use Rattle.trace_text.specs.declared.trace.Op.TheVariants as op
-use Rattle.lane_outcomes.specs.declared.registers.HeldBlock.{HeldBlock}
-use Rattle.lane_outcomes.specs.Lane.{held_in}
 use Rattle.trace_lane.specs.declared.stage.OperationStage.TheVariants as stage
-use Rattle.trace_lane.specs.Doing.{DoingOf, call_at, held_there, reads}
-use Rattle.trace_lane.specs.Scripts.{stage_begun}
-use Rattle.trace_lane.specs.Paths.{held_blocks}
 use Rattle.trace_lane.proofs.DoingLemmas as doing
 use Rattle.trace_lane.proofs.PartLemmas.{answer-goes, read-held, set-block}
 use Rattle.trace_lane.proofs.lane.LaneState.copy_into.Goals as goal

@@ -1,11 +1,8 @@
 use Rattle.std.proofs.Common.{◌≡◌, ◌<◌, Some, None, length, refl, sym, ap, ◌∙◌, subst, inl, arith}
 use Rattle.errand_steps.specs.declared.told.Ending.TheVariants as ending
-use Rattle.lane_outcomes.specs.declared.registers.HeldBlock.{HeldBlock}
-use Rattle.lane_outcomes.specs.Lane.{held_in}
+use Rattle.trace_lane.proofs.Common.{HeldBlock, held_in, held_blocks, behind, word_behind, frees, held_there, reads}
 use Rattle.trace_lane.specs.declared.stage.OperationStage.TheVariants as stage
-use Rattle.trace_lane.specs.Advances.{behind, word_behind}
-use Rattle.trace_lane.specs.Doing.{frees, held_there, reads, writes}
-use Rattle.trace_lane.specs.Paths.{held_blocks}
+use Rattle.trace_lane.specs.Made.{writes}
 use Rattle.trace_lane.proofs.DoingLemmas as doing
 use Rattle.trace_lane.proofs.PartLemmas.{answer-goes, blocks-size, read-held, staged}
 use Rattle.trace_lane.proofs.lane.LaneState.copy_next.Goals as goal
@@ -30,7 +27,7 @@ returns-in-Some g c =
       answered = λ need.
           answer-goes ending.Wrote old.registers.items (stage.Copying from next None) (reads from next)
           (staged old (stage.Copying from next None) _ c.read_old.ensures.call c.read_old.ensures.lane refl refl) refl (λ spent. cc)
-          (inl (doing.rises-past c.in-Copying.is more.0))
+          (inl (omega (arith, doing.rises-to c.in-Copying.is, more.0)))
           (λ before made so a. (
             doing.resize-reads place_of need_of before regs c.args.r need i next from _
                 (doing.resize-copied place_of need_of before regs c.args.r need i from w old.stage made within c.in-Copying.is so a) found
@@ -59,7 +56,7 @@ returns-in-Some-2 g c =
       answered = λ need.
           answer-goes ending.Wrote old.registers.items (stage.Copying from next (Some 0)) (writes (held_there (held_in regs c.args.r)) next 0)
           (staged old (stage.Copying from next (Some 0)) _ c.write_new.ensures.call c.write_new.ensures.lane refl refl) refl (λ spent. cc)
-          (inl (doing.rises-over c.in-Copying.is more.0))
+          (inl (omega (arith, doing.rises-to c.in-Copying.is, more.0)))
           (λ before made so a. (
             doing.resize-clears place_of need_of before regs c.args.r need i next from _
                 (doing.resize-copied place_of need_of before regs c.args.r need i from w old.stage made within c.in-Copying.is so a) found

@@ -1,15 +1,8 @@
 use Rattle.std.proofs.Common.{◌≡◌, [], ◌∷◌, ◌++◌, Some, None, refl, ap, ◌∙◌}
-use Rattle.std.specs.Prelude.{slice_set}
-use Rattle.std.specs.List.{slice_index_or}
-use Rattle.heap_geometry.specs.declared.need.Need.{Need}
-use Rattle.heap_geometry.specs.Need.{usable_words}
-use Rattle.errand_steps.specs.Calls.{alloc}
-use Rattle.errand_steps.specs.declared.reply.Reply.{Reply}
+use Rattle.trace_lane.proofs.Common.{Need, Reply, slice_set, slice_index_or, usable_words, alloc, answered, held_blocks}
 use Rattle.errand_steps.specs.declared.reply.Reply.TheVariants as reply
-use Rattle.sound_laws.specs.events.Made.{answered}
 use Rattle.trace_text.specs.declared.trace.Op.TheVariants as op
 use Rattle.lane_outcomes.specs.declared.outcome.Outcome.TheVariants as outcome
-use Rattle.trace_lane.specs.Paths.{held_blocks}
 use Rattle.trace_lane.proofs.PartLemmas.{set-held, slot-none, slot-some}
 use Rattle.trace_lane.proofs.HoldsLemmas.{makes}
 use Rattle.trace_lane.proofs.MadeLemmas.{made-given}

@@ -1,5 +1,5 @@
 use Rattle.std.proofs.Common.{◌<◌, [], Some, None, refl, sym, ap, subst}
-use Rattle.sound_laws.specs.events.Made.{found_from}
+use Rattle.trace_lane.proofs.Common.{found_from}
 use Rattle.trace_text.specs.declared.trace.Op.TheVariants as op
 use Rattle.lane_outcomes.specs.declared.outcome.Outcome.TheVariants as outcome
 use Rattle.trace_lane.proofs.HoldsLemmas.{makes}

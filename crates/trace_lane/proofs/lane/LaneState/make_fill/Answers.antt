@@ -1,6 +1,5 @@
 use Rattle.std.proofs.Common.{◌<◌, [], Some, None, refl, sym, ap, subst}
-use Rattle.heap_geometry.specs.Need.{usable_words}
-use Rattle.sound_laws.specs.events.Made.{wrote}
+use Rattle.trace_lane.proofs.Common.{usable_words, wrote}
 use Rattle.trace_text.specs.declared.trace.Op.TheVariants as op
 use Rattle.lane_outcomes.specs.declared.outcome.Outcome.TheVariants as outcome
 use Rattle.trace_lane.proofs.HoldsLemmas.{makes}

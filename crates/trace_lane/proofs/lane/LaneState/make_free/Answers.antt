@@ -1,7 +1,6 @@
 use Rattle.std.proofs.Common.{[], ◌∷◌, Some, None, refl, sym, ap, ◌∙◌}
-use Rattle.errand_steps.specs.Calls.{free}
+use Rattle.trace_lane.proofs.Common.{free, answered}
 use Rattle.errand_steps.specs.declared.reply.Reply.TheVariants as reply
-use Rattle.sound_laws.specs.events.Made.{answered}
 use Rattle.trace_text.specs.declared.trace.Op.TheVariants as op
 use Rattle.lane_outcomes.specs.declared.outcome.Outcome.TheVariants as outcome
 use Rattle.trace_lane.proofs.PartLemmas.{emptied-empty, set-held}

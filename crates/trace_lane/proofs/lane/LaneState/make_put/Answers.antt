@@ -1,15 +1,8 @@
 use Rattle.std.proofs.Common.{ℕ, ◌≡◌, [], ◌∷◌, Some, None, refl, sym, ap, ◌∙◌}
-use Rattle.std.specs.Prelude.{slice_set}
-use Rattle.std.proofs.lemmas.List.{set-get_or, set-set}
-use Rattle.heap_geometry.specs.declared.need.Need.{Need}
-use Rattle.heap_geometry.specs.Need.{usable_words}
-use Rattle.errand_steps.specs.Calls.{put}
+use Rattle.trace_lane.proofs.Common.{Need, HeldBlock, slice_set, set-get_or, set-set, usable_words, put, answered, held_blocks, held_by}
 use Rattle.errand_steps.specs.declared.reply.Reply.TheVariants as reply
-use Rattle.sound_laws.specs.events.Made.{answered}
 use Rattle.trace_text.specs.declared.trace.Op.TheVariants as op
 use Rattle.lane_outcomes.specs.declared.outcome.Outcome.TheVariants as outcome
-use Rattle.lane_outcomes.specs.declared.registers.HeldBlock.{HeldBlock}
-use Rattle.trace_lane.specs.Paths.{held_blocks, held_by}
 use Rattle.trace_lane.proofs.PartLemmas.{emptied-empty, set-held, slot-full}
 use Rattle.trace_lane.proofs.HoldsLemmas.{makes}
 use Rattle.trace_lane.proofs.lane.LaneState.make_put.Goals as goal

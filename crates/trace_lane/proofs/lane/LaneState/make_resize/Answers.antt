@@ -1,16 +1,8 @@
 use Rattle.std.proofs.Common.{◌≡◌, ◌∙◌, [], ◌∷◌, ◌++◌, Some, None, refl, sym, ap}
-use Rattle.std.specs.Prelude.{slice_set}
-use Rattle.std.specs.List.{range_with_len, slice_index_or}
-use Rattle.std.proofs.lemmas.List.{set-set}
-use Rattle.heap_geometry.specs.declared.need.Need.{Need}
-use Rattle.heap_geometry.specs.Need.{usable_words}
-use Rattle.errand_steps.specs.declared.reply.Reply.{Reply}
+use Rattle.trace_lane.proofs.Common.{Need, Reply, slice_set, range_with_len, slice_index_or, set-set, usable_words, alloc, answered, copied, held_blocks}
 use Rattle.errand_steps.specs.declared.reply.Reply.TheVariants as reply
-use Rattle.errand_steps.specs.Calls.{alloc}
-use Rattle.sound_laws.specs.events.Made.{answered, copied}
 use Rattle.trace_text.specs.declared.trace.Op.TheVariants as op
 use Rattle.lane_outcomes.specs.declared.outcome.Outcome.TheVariants as outcome
-use Rattle.trace_lane.specs.Paths.{held_blocks}
 use Rattle.trace_lane.proofs.EachCall.{all-copied, leaves}
 use Rattle.trace_lane.proofs.HoldsLemmas.{leads-keep, makes}
 use Rattle.trace_lane.proofs.MadeLemmas.{asked-full, made-resized}

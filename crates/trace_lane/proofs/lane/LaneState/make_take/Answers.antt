@@ -1,10 +1,6 @@
 use Rattle.std.proofs.Common.{◌≡◌, [], ◌∷◌, ◌++◌, Some, None, refl, ap, ◌∙◌}
-use Rattle.std.specs.List.{slice_index_or}
-use Rattle.heap_geometry.specs.Need.{usable_words}
-use Rattle.errand_steps.specs.Calls.{take}
-use Rattle.errand_steps.specs.declared.reply.Reply.{Reply}
+use Rattle.trace_lane.proofs.Common.{Reply, slice_index_or, usable_words, take, answered}
 use Rattle.errand_steps.specs.declared.reply.Reply.TheVariants as reply
-use Rattle.sound_laws.specs.events.Made.{answered}
 use Rattle.trace_text.specs.declared.trace.Op.TheVariants as op
 use Rattle.lane_outcomes.specs.declared.outcome.Outcome.TheVariants as outcome
 use Rattle.trace_lane.proofs.PartLemmas.{set-held, slot-none, slot-some}

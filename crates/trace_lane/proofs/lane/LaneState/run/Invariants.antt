@@ -1,6 +1,5 @@
 use Rattle.std.proofs.Common.{◌≡◌, length}
-use Rattle.trace_lane.specs.Made.{HasRun, HoldsBlocks}
-use Rattle.trace_lane.specs.Paths.{FirstPassed}
+use Rattle.trace_lane.proofs.Common.{HasRun, HoldsBlocks, FirstPassed}
 use Rattle.trace_lane.proofs.lane.LaneState.run.Given as goal
 
 abbrev pub invariant-loop-op : goal.invariant-loop-op

@@ -20,6 +20,13 @@ file-requires-clause-words c =
     let g = given-to c.args.heap.now s.pass c.alloc.new.pass (length c.args.words.now + 1) e.tells.0.steps (blocks_of s) c.in-Given.block c.requires.ready.of e.of e.tells.0.called c.requires.ready.exactly in
     omega (arith, g.enough)
 
+pub file-requires-clause-blank : goal.file-requires-clause-blank
+file-requires-clause-blank c =
+    let s = c.args.self.now in
+    let e = c.in-Given.ensures in
+    let g = given-to c.args.heap.now s.pass c.alloc.new.pass (length c.args.words.now + 1) e.tells.0.steps (blocks_of s) c.in-Given.block c.requires.ready.of e.of e.tells.0.called c.requires.ready.exactly in
+    g.blank
+
 pub file-requires-clause-built : goal.file-requires-clause-built
 file-requires-clause-built c =
     let s = c.args.self.now in

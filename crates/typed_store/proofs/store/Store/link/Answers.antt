@@ -1,11 +1,16 @@
-use Rattle.std.proofs.Common.{suc, ◌-◌, ◌++◌, ◌∷◌, List, length, sym, ap, ◌∙◌, subst, arith}
+use Rattle.std.proofs.Common.{suc, ◌≡◌, [], ◌-◌, ◌++◌, ◌∷◌, List, length, sym, ap, ◌∙◌, subst, arith}
+use Rattle.std.specs.Prelude.{All}
+use Rattle.std.proofs.lemmas.List.Elements.{All-cons, All-nil}
+use Rattle.heap_geometry.specs.Need.{need_of}
+use Rattle.live_heap.specs.declared.block.Block.{Block}
 use Rattle.live_heap.specs.Contents.{owned_in}
 use Rattle.live_heap.specs.Holdings.{HoldsExactly}
 use Rattle.typed_store.specs.declared.slot.Slot.{Slot}
-use Rattle.typed_store.specs.declared.slot.Slot.TheVariants.{Node}
+use Rattle.typed_store.specs.declared.slot.Slot.TheVariants.{Node, Spare}
 use Rattle.typed_store.specs.Nodes.{IsSpare, Spells, tokens_in}
 use Rattle.typed_store.specs.Stores.{blocks_of}
-use Rattle.typed_store.proofs.SlotLemmas.{length-set}
+use Rattle.typed_store.proofs.PassLemmas.{blank-need}
+use Rattle.typed_store.proofs.SlotLemmas.{all-set, length-set}
 use Rattle.typed_store.proofs.StayLemmas.{same-away, same-front}
 use Rattle.typed_store.proofs.StoreLemmas.{exact-in, list-linked, more-tokens, spare-has, spare-in, words-stay}
 use Rattle.typed_store.proofs.store.Store.link.Goals as goal
@@ -59,6 +64,14 @@ returns-clause-ready c =
         nodes = ap (λ (l : List Slot). length (tokens_in l)) put.slots ∙ (more ∙ ap suc b.nodes);
         words = b.words;
         records = words-stay s q b.words same b.records;
+        sized = (
+          subst (λ (l : List Slot). All (λ (x : Block). x.need ≡ need_of 3) (tokens_in l)) (sym put.slots)
+              (all-set (λ (x : Block). x.need ≡ need_of 3) s.slots.items slot (Spare c.put_in-self.new.unused) (Node c.args.block) put.was b.sized.0
+              (All-cons (λ (x : Block). x.need ≡ need_of 3) c.args.block []
+              (blank-need s.pass c.args.block s.pass.errand.caller 3 c.requires.exactly.0.0 c.requires.blank)
+              (All-nil (λ (x : Block). x.need ≡ need_of 3)))),
+          b.sized.1,
+        );
         spare =
             subst (λ (l : List Slot). IsSpare l c.put_in-self.new.unused) (sym put.slots)
             (spare-in s.slots.items s.unused c.put_in-self.new.unused c.args.block b.spare c.requires.room put.was);

@@ -32,6 +32,15 @@ file-requires-clause-words c =
     let g = resumed-given c.args.heap.now s (length c.args.words.now + 1) c.args.tries c.in-Given.block c.resume.new.pass a u.of e.of (e.tells a.first (alloc (length c.args.words.now + 1)) a.steps a.was a.calling) in
     omega (arith, g.enough)
 
+pub file-requires-clause-blank : goal.file-requires-clause-blank
+file-requires-clause-blank c =
+    let s = c.args.self.now in
+    let u = c.requires.under_way in
+    let a = (asks-record c.args.heap.now s (length c.args.words.now) u c.requires.pending).0 in
+    let e = c.in-Given.ensures in
+    let g = resumed-given c.args.heap.now s (length c.args.words.now + 1) c.args.tries c.in-Given.block c.resume.new.pass a u.of e.of (e.tells a.first (alloc (length c.args.words.now + 1)) a.steps a.was a.calling) in
+    g.blank
+
 pub file-requires-clause-built : goal.file-requires-clause-built
 file-requires-clause-built c =
     let s = c.args.self.now in

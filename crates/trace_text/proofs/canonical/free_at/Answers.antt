@@ -1,6 +1,0 @@
-use Rattle.std.proofs.Common.{arith}
-use Rattle.trace_text.proofs.CanonicalLemmas.{free_stands}
-use Rattle.trace_text.proofs.canonical.free_at.Goals as goal
-
-pub returns : goal.returns
-returns c = free_stands c.args.version _ _ _ _ c.in_ok-r.ensures.number (omega (arith, c.in_ok-r.ensures.most))
