@@ -27,7 +27,7 @@
  * be changed (while it is 0, MINOR does), MINOR where a name or a code is added, and PATCH where all names, numbers and
  * layouts stay. A program is built with the page of the very library that it is linked with. */
 #define BALLOC_VERSION_MAJOR 0
-#define BALLOC_VERSION_MINOR 5
+#define BALLOC_VERSION_MINOR 6
 #define BALLOC_VERSION_PATCH 0
 
 #ifdef __cplusplus
@@ -102,17 +102,17 @@ enum {
 /* Opens a heap with so many frames of 4,096 words for small blocks (1 to BALLOC_MOST_FRAMES), processor heaps (1 to
  * BALLOC_MOST_HEAPS) and units of 2,048 words for large ones (0 to BALLOC_MOST_UNITS), and one pass for each of the
  * `count` variables (1 to BALLOC_MOST_PASSES), each of which takes at most `turn_limit` turns (1 to BALLOC_MOST_TURNS):
- * a turn is one attempt of an allocation of at most 2,047 words. A pass keeps at most `depth` blocks of each size that it
- * frees in a magazine (0 to BALLOC_MOST_DEPTH; 0: none), and gives them again with no step on a word that others share:
- * they are lost to the other passes until it closes and frees its blocks. As many of each size it keeps whose memory was
- * out when they were freed: balloc_alloc alone gives that memory again.
+ * a turn is one attempt of an allocation of at most 2,047 words. A pass keeps blocks of each size that it
+ * frees, and gives them again with no step on a word that others share: at most `depth` (0 to BALLOC_MOST_DEPTH; 0: none)
+ * whose words were home, as many more of these in a magazine, and as many whose memory was out, which balloc_alloc alone
+ * gives again. They are lost to the other passes until it closes and frees its blocks.
  * BALLOC_DONE, BALLOC_IN_USE, BALLOC_BAD_NUMBERS, BALLOC_NO_MEMORY */
 int32_t balloc_open(uint32_t frames, uint32_t heaps, uint32_t units, uint64_t turn_limit, uint32_t depth,
                     balloc_pass *passes, size_t count);
 
 /* Closes a pass, and tells how many exchanges it won and lost: it is empty again. Its blocks are freed first where
- * `frees` says so, those in its magazines too, where the memory of none is out; where that is interrupted the pass stays open, and balloc_resume and then another close go on with
- * it. Else they stay allocated, those in magazines too, as does the block of a call that is under way. The last pass of a heap takes the heap
+ * `frees` says so, those that it keeps too, where the memory of none is out; where that is interrupted the pass stays open, and balloc_resume and then another close go on with
+ * it. Else they stay allocated, those that it keeps too, as does the block of a call that is under way. The last pass of a heap takes the heap
  * with it, and `census` tells what that held. It tells nothing (`counted` is false) while other passes are open, where one
  * of them was closed in the middle of a call, or where there is no memory for a list of them.
  * BALLOC_DONE, BALLOC_CLOSED; where it frees, BALLOC_IN_CALL, BALLOC_OUT, BALLOC_INTERRUPTED */

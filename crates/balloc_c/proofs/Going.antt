@@ -55,6 +55,7 @@ stands-on h p q None lent stands = tt
 stands-on h p q (Some (kept.Home block)) lent home = stays-home p q block.place lent home
 stands-on h p q (Some (kept.Out out)) lent ((n, b, at, there, serves), lies, even) =
     ((n, b, ap (λ (l : List OutBlock). get_elem? l n) lent ∙ at, there, serves), lies, even)
+stands-on h p q (Some (kept.Resting block)) lent home = stays-home p q block.place lent home
 stands-on h p q (Some (kept.Laid memory)) lent (((n, b, at, there, serves), lies, even), room) =
     (((n, b, ap (λ (l : List OutBlock). get_elem? l n) lent ∙ at, there, serves), lies, even), room)
 

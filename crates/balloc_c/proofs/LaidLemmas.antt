@@ -1,5 +1,5 @@
--- Memory that a pass keeps, in its slot, and the slots about it.
-use Rattle.std.proofs.Common.{ℕ, suc, ◌≡◌, ◌≢◌, ◌<◌, ◌+◌, ◌%◌, ◌^◌, ◌++◌, ◌∙◌, List, [], ◌∷◌, Option, Some, None, length, slice_index_or, refl, sym, ap, subst, arith, length-set}
+-- What a pass keeps in a slot, and the slots about it.
+use Rattle.std.proofs.Common.{ℕ, suc, ◌≡◌, ◌≢◌, ◌<◌, ◌+◌, ◌*◌, ◌%◌, ◌^◌, ◌++◌, ◌∙◌, List, [], ◌∷◌, Option, Some, None, length, slice_index_or, refl, sym, ap, subst, arith, length-set}
 use Rattle.std.specs.Prelude.{map, slice_set}
 use Rattle.std.proofs.lemmas.Bool.Decides.{eqb_tells}
 use Rattle.std.proofs.lemmas.List.{get_or_read, get_or-set_same, length-map}
@@ -7,19 +7,16 @@ use Rattle.heap_geometry.specs.declared.need.Need.{Need}
 use Rattle.plain_words.specs.declared.plain.PlainWords.{PlainWords}
 use Rattle.live_heap.specs.declared.block.Block.{Block}
 use Rattle.live_heap.specs.Heaps.{HeapFields}
-use Rattle.live_heap.specs.declared.plain.Memory.{Memory}
 use Rattle.block_cache.specs.declared.cache.Cache.{Cache}
 use Rattle.block_cache.specs.Caches.{cached_in}
 use Rattle.balloc_c.specs.declared.kept.Kept.{Kept}
-use Rattle.balloc_c.specs.declared.kept.Kept.TheVariants as kept
-use Rattle.balloc_c.specs.declared.lent.LentBlock.{LentBlock}
 use Rattle.balloc_c.specs.declared.table.Slot.{Slot}
 use Rattle.balloc_c.specs.declared.table.Table.{Table}
 use Rattle.balloc_c.specs.Kept.{block_of, seen}
 use Rattle.balloc_c.specs.Laid.{HasTurned}
 use Rattle.balloc_c.specs.Numbers.{NamesOneLess, NamesOneMore, named, number_at}
 use Rattle.balloc_c.specs.Packed.{AreSpare, IsPacked}
-use Rattle.balloc_c.specs.Slots.{age_at, block_at, blocks_of, lots_of, next_at, no_slot, set_block, with_block}
+use Rattle.balloc_c.specs.Slots.{after_at, age_at, block_at, blocks_of, lots_of, next_at, no_slot, set_block, with_block}
 use Rattle.balloc_c.specs.Tended.{HasAll, IsRoomAt, Stands, Tends}
 use Rattle.balloc_c.proofs.Numbers.{gains, loses}
 use Rattle.balloc_c.proofs.Packing.{apart-from, keep-spare, next-set_other}
@@ -142,11 +139,18 @@ block-read slots i old within is = ap (λ (s : Slot). s.block) (sym (get_or_read
 pub age-read : (slots : List Slot) (i : ℕ) (old : Slot) → i < length slots → old ≡ slice_index_or slots i old → age_at slots i ≡ old.age
 age-read slots i old within is = ap (λ (s : Slot). s.age) (sym (get_or_read slots i old within is no_slot))
 
-pub next-read : (slots : List Slot) (i : ℕ) (old : Slot) → i < length slots → old ≡ slice_index_or slots i old → next_at slots i ≡ old.next
-next-read slots i old within is = ap (λ (s : Slot). s.next) (sym (get_or_read slots i old within is no_slot))
+pub after-read : (slots : List Slot) (i : ℕ) (old : Slot) → i < length slots → old ≡ slice_index_or slots i old → after_at slots i ≡ old.after
+after-read slots i old within is = ap (λ (s : Slot). s.after) (sym (get_or_read slots i old within is no_slot))
 
-pub next-set_same : (slots : List Slot) (i : ℕ) (slot : Slot) → i < length slots → next_at (slice_set slots i slot) i ≡ slot.next
-next-set_same slots i slot within = ap (λ (s : Slot). s.next) (get_or-set_same slots i slot no_slot within)
+pub after-set_same : (slots : List Slot) (i : ℕ) (slot : Slot) → i < length slots → after_at (slice_set slots i slot) i ≡ slot.after
+after-set_same slots i slot within = ap (λ (s : Slot). s.after) (get_or-set_same slots i slot no_slot within)
+
+-- the number of a slot that has given its block away once more, and the slot that it names
+pub older-number : (age i n : ℕ) → age * 2 ^ 32 + i % 2 ^ 32 ≡ n → (age + 1) % 2 ^ 32 * 2 ^ 32 + i % 2 ^ 32 ≡ (n + 2 ^ 32) % 2 ^ 64
+older-number age i n is = omega (arith, is)
+
+pub older-slot : (n : ℕ) → (n + 2 ^ 32) % 2 ^ 64 % 2 ^ 32 ≡ n % 2 ^ 32
+older-slot n = omega arith
 
 -- a slot with the age that it had leaves all ages
 pub ages-kept :
@@ -176,23 +180,23 @@ pub room-on :
 room-on h p q n m v w place need words room =
     subst (λ (x : ℕ). IsRoomAt h x m w) place (subst (λ (x : Need). IsRoomAt h p x w) need (subst (IsRoomAt h p n) words room))
 
--- memory that the pass keeps from now on has no number
+-- what the pass keeps from now on has no number
 pub lays-less :
-    (t u : Table) (i n : ℕ) (slot : Slot) (memory : Memory) → i ≡ n % 2 ^ 32 → named t n ≢ None → i < length t.slots.items
-    → u.slots.items ≡ slice_set t.slots.items i slot → slot.block ≡ Some (kept.Laid memory) → slot.age ≡ (age_at t.slots.items i + 1) % 2 ^ 32 → NamesOneLess t n u
-lays-less t u i n slot memory at names within set is older =
+    (t u : Table) (i n : ℕ) (slot : Slot) (now : Kept) → i ≡ n % 2 ^ 32 → named t n ≢ None → i < length t.slots.items
+    → u.slots.items ≡ slice_set t.slots.items i slot → slot.block ≡ Some now → seen (Some now) ≡ None → slot.age ≡ (age_at t.slots.items i + 1) % 2 ^ 32 → NamesOneLess t n u
+lays-less t u i n slot now at names within set is unseen older =
     let slots = t.slots.items in
     loses t u n names
     (subst (λ (k : ℕ). seen (block_at u.slots.items k) ≡ None) at
-    (ap seen (ap (λ (l : List Slot). block_at l i) set ∙ block-set_same slots i slot within ∙ is)))
+    (ap seen (ap (λ (l : List Slot). block_at l i) set ∙ block-set_same slots i slot within ∙ is) ∙ unseen))
     (λ j other. ap (λ (l : List Slot). block_at l j) set ∙ block-set_other slots i j slot (λ same. other (same ∙ at)))
     (subst (λ (k : ℕ). age_at u.slots.items k ≡ (age_at slots k + 1) % 2 ^ 32) at
     (ap (λ (l : List Slot). age_at l i) set ∙ age-set_same slots i slot within ∙ older))
     (λ j other. ap (λ (l : List Slot). age_at l j) set ∙ age-set_other slots i j slot (λ same. other (same ∙ at)))
 
--- and when it goes out again it has one
+-- and when it is given again it has one
 pub lifts-more :
-    (t u : Table) (i : ℕ) (memory : Memory) (lent : LentBlock) → i < 2 ^ 32 → block_at t.slots.items i ≡ Some (kept.Laid memory)
-    → HasTurned t.slots.items i (kept.Out lent) u.slots.items → ((j : ℕ) → age_at u.slots.items j ≡ age_at t.slots.items j)
-    → NamesOneMore t (number_at u i) (kept.Out lent) u
-lifts-more t u i memory lent small is turned ages = gains t u i (kept.Out lent) small (ap seen is) (ap seen turned.here) turned.others ages
+    (t u : Table) (i : ℕ) (was now : Kept) → i < 2 ^ 32 → block_at t.slots.items i ≡ Some was → seen (Some was) ≡ None → seen (Some now) ≡ Some now
+    → HasTurned t.slots.items i now u.slots.items → ((j : ℕ) → age_at u.slots.items j ≡ age_at t.slots.items j)
+    → NamesOneMore t (number_at u i) now u
+lifts-more t u i was now small is unseen shown turned ages = gains t u i now small (ap seen is ∙ unseen) (ap seen turned.here ∙ shown) turned.others ages

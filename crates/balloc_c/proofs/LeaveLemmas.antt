@@ -6,7 +6,11 @@ use Rattle.live_heap.specs.declared.answers.FreeAnswer.{FreeAnswer}
 use Rattle.live_heap.specs.declared.answers.FreeAnswer.TheVariants as free_answer
 use Rattle.live_heap.specs.declared.block.Block.{Block}
 use Rattle.balloc_c.specs.declared.kept.Kept.{Kept}
-use Rattle.balloc_c.specs.Kept.{is_out}
+use Rattle.balloc_c.specs.declared.kept.Kept.TheVariants as kept
+use Rattle.balloc_c.specs.Kept.{block_of, is_laid, is_out}
+use Rattle.balloc_c.specs.Tended.{Stands}
+use Rattle.live_heap.specs.Heaps.{HeapFields}
+use Rattle.live_heap.specs.Passes.{IsHome}
 use Rattle.live_heap.specs.declared.pass.Pass.{Pass}
 use Rattle.errand_steps.specs.Begins.{IsIdle}
 use Rattle.block_cache.specs.declared.cache.Cache.{Cache}
@@ -47,6 +51,22 @@ frees-next p q r slots i within freed one =
     subst (λ (l : List Kept). FreesAll p l r)
     (sym (ap blocks_of (take_more slots i no_slot within) ∙ blocks-append (take i slots) (slot ∷ [])))
     (frees-slot p q r (blocks_of (take i slots)) slot.block freed one)
+
+-- a block that is home is freed as it is, and all its words are home
+pub frees-home :
+    (c : Cache) (it : Kept) (answer : FreeAnswer) (d : Cache) → is_out (Some it) ≡ false → is_laid (Some it) ≡ false → IsFree c (block_of it) answer d
+    → FreesKept c it answer d
+frees-home c (kept.Home block) answer d out laid freed = freed
+frees-home c (kept.Out lent) answer d out laid freed = absurd (true≢false out)
+frees-home c (kept.Resting block) answer d out laid freed = freed
+frees-home c (kept.Laid memory) answer d out laid freed = absurd (true≢false laid)
+
+pub home-stands :
+    (h : HeapFields) (p : Pass) (it : Kept) → is_out (Some it) ≡ false → is_laid (Some it) ≡ false → Stands h p (Some it) → IsHome p (block_of it).place
+home-stands h p (kept.Home block) out laid home = home
+home-stands h p (kept.Out lent) out laid stands = absurd (true≢false out)
+home-stands h p (kept.Resting block) out laid home = home
+home-stands h p (kept.Laid memory) out laid stands = absurd (true≢false laid)
 
 same-blocks : (xs ys : List Slot) → length xs ≡ length ys → ((k : ℕ) → block_at xs k ≡ block_at ys k) → blocks_of xs ≡ blocks_of ys
 same-blocks [] [] count each = refl

@@ -31,7 +31,7 @@ use Rattle.balloc_c.specs.Tended.{HasAll, Stands, Tends, at_home}
 use Rattle.balloc_c.proofs.AllBlocks.{home-of, rests}
 use Rattle.balloc_c.proofs.Going.{has-made, kept-cached, writes-on}
 use Rattle.balloc_c.proofs.Slots.{block-set_other, block-set_same, by_case, vacant-set}
-use Rattle.balloc_c.proofs.Tending.{apart-at, held-at, placed, taken-out, within-of}
+use Rattle.balloc_c.proofs.Tending.{apart-at, held-at, held-of, placed, taken-out, within-of}
 
 -- words that are home or out stay so where those of a block at another place went out last
 home-behind :
@@ -47,6 +47,7 @@ stands-behind h p q x None lent apart stands = tt
 stands-behind h p q x (Some (kept.Home block)) lent apart home = home-behind p q x block.place lent (apart (kept.Home block) refl) home
 stands-behind h p q x (Some (kept.Out out)) lent apart ((n, b, at, there, serves), lies, even) =
     ((suc n, b, ap (λ (l : List OutBlock). get_elem? l (suc n)) lent ∙ at, there, serves), lies, even)
+stands-behind h p q x (Some (kept.Resting block)) lent apart home = home-behind p q x block.place lent (apart (kept.Resting block) refl) home
 stands-behind h p q x (Some (kept.Laid memory)) lent apart (((n, b, at, there, serves), lies, even), room) =
     (((suc n, b, ap (λ (l : List OutBlock). get_elem? l (suc n)) lent ∙ at, there, serves), lies, even), room)
 
@@ -142,6 +143,8 @@ home-tends h c d slots middle after i was at need block words ns tends idle with
     still j (Some (kept.Out other)) there ne (taken, lies, even) =
         let apart = apart-at h c slots i j was (kept.Out other) tends idle within is ne there in
         (others (record { block = block_of (kept.Out other); words = words }) taken (λ same. apart (same ∙ sym place)), lies, even)
+    still j (Some (kept.Resting other)) there ne home =
+        (owns other (held-of h c slots j (kept.Resting other) tends idle (within-of slots j (kept.Resting other) there) there home).0).1
     still j (Some (kept.Laid memory)) there ne ((taken, lies, even), room) =
         let apart = apart-at h c slots i j was (kept.Laid memory) tends idle within is ne there in
         ((others memory taken (λ same. apart (same ∙ sym place)), lies, even), room)
@@ -154,19 +157,25 @@ pub home-slot : (slot : Option Kept) → seen slot ≢ None → is_out slot ≡ 
 home-slot None there home = absurd (there refl)
 home-slot (Some (kept.Home block)) there home = (block, refl)
 home-slot (Some (kept.Out lent)) there home = absurd (true≢false home)
+home-slot (Some (kept.Resting block)) there home = absurd (there refl)
 home-slot (Some (kept.Laid memory)) there home = absurd (there refl)
 
 pub out-slot : (slot : Option Kept) → is_out slot ≡ true → (lent : LentBlock) × (slot ≡ Some (kept.Out lent))
 out-slot None out = absurd (true≢false (sym out))
 out-slot (Some (kept.Home block)) out = absurd (true≢false (sym out))
 out-slot (Some (kept.Out lent)) out = (lent, refl)
+out-slot (Some (kept.Resting block)) out = absurd (true≢false (sym out))
 out-slot (Some (kept.Laid memory)) out = absurd (true≢false (sym out))
 
 pub laid-slot : (slot : Option Kept) → is_laid slot ≡ true → (memory : Memory) × (slot ≡ Some (kept.Laid memory))
 laid-slot None laid = absurd (true≢false (sym laid))
 laid-slot (Some (kept.Home block)) laid = absurd (true≢false (sym laid))
 laid-slot (Some (kept.Out lent)) laid = absurd (true≢false (sym laid))
+laid-slot (Some (kept.Resting block)) laid = absurd (true≢false (sym laid))
 laid-slot (Some (kept.Laid memory)) laid = (memory, refl)
+
+pub same-resting : (a b : Block) → Some (kept.Resting a) ≡ Some (kept.Resting b) → a ≡ b
+same-resting a b same = cc
 
 pub same-laid : (a b : Memory) → Some (kept.Laid a) ≡ Some (kept.Laid b) → a ≡ b
 same-laid a b same = cc

@@ -25,7 +25,7 @@ use Rattle.balloc_c.specs.declared.refusal.Refusal.TheVariants as refusal
 use Rattle.balloc_c.specs.declared.table.Slot.{Slot}
 use Rattle.balloc_c.specs.declared.table.Table.{Table}
 use Rattle.balloc_c.specs.Numbers.{NamesOneMore, HasSlotReady, KeepsNumbers, NamesOneLess, named}
-use Rattle.balloc_c.specs.Outcomes.{Allocs, Frees, GoesOnTo, HasAllocated, HasFreed, HasPut, HasRead, HasResumed, HasTaken, HasWritten, Puts, Reads, Resumes, Takes, Writes, alloc_bar, free_bar, put_bar, resume_bar, take_bar, word_bar}
+use Rattle.balloc_c.specs.Outcomes.{Allocs, Frees, GoesOnTo, HasAllocatedNew, HasFreed, HasPut, HasRead, HasResumed, HasTaken, HasWritten, Puts, Reads, Resumes, Takes, Writes, alloc_bar, free_bar, put_bar, resume_bar, take_bar, word_bar}
 use Rattle.balloc_c.specs.Ranges.{Adds, Fills, HasFilled, HasReadRange, HasSummed, HasWrittenRange, ReadsRange, WritesRange, range_bar}
 use Rattle.balloc_c.specs.Slots.{HasAged, block_at, set_block}
 use Rattle.balloc_c.specs.Through.{Asked, IsAllocation, IsFree}
@@ -135,25 +135,25 @@ full-answers c t number shelf block back full d u middle i idle names has tells 
 -- what an allocation answers
 pub given-answers :
     (c : Cache) (t : Table) (words number : ℕ) (block : Block) (d : Cache) (u : Table) → is_idle c.pass.errand.point ≡ true → words ≤ LARGE_MOST
-    → NamesOneMore t number (kept.Home block) u → IsAllocation c words (alloc_answer.Given block) d → HasAllocated c t words (Ok number) d u
+    → NamesOneMore t number (kept.Home block) u → IsAllocation c words (alloc_answer.Given block) d → HasAllocatedNew c t words (Ok number) d u
 given-answers c t words number block d u idle has gains told =
     makes (alloc_bar c.pass words) (Allocs c t words) c t (Ok number) d u (alloc-made c.pass words idle has) (block, gains, told)
 
 pub refused-answers :
     (c : Cache) (t : Table) (words : ℕ) (d : Cache) (u : Table) → is_idle c.pass.errand.point ≡ true → words ≤ LARGE_MOST → HasSlotReady t u
-    → IsAllocation c words alloc_answer.Refused d → HasAllocated c t words (Err refusal.Exhausted) d u
+    → IsAllocation c words alloc_answer.Refused d → HasAllocatedNew c t words (Err refusal.Exhausted) d u
 refused-answers c t words d u idle has ready told =
     makes (alloc_bar c.pass words) (Allocs c t words) c t (Err refusal.Exhausted) d u (alloc-made c.pass words idle has) (ready, told)
 
 pub spent-answers :
     (c : Cache) (t : Table) (words : ℕ) (d : Cache) (u : Table) → is_idle c.pass.errand.point ≡ true → words ≤ LARGE_MOST → HasSlotReady t u
-    → IsAllocation c words alloc_answer.Spent d → HasAllocated c t words (Err refusal.Spent) d u
+    → IsAllocation c words alloc_answer.Spent d → HasAllocatedNew c t words (Err refusal.Spent) d u
 spent-answers c t words d u idle has ready told =
     makes (alloc_bar c.pass words) (Allocs c t words) c t (Err refusal.Spent) d u (alloc-made c.pass words idle has) (ready, told)
 
 pub busy-answers :
     (c : Cache) (t : Table) (words : ℕ) (d : Cache) (u : Table) → is_idle c.pass.errand.point ≡ true → words ≤ LARGE_MOST → HasSlotReady t u
-    → IsAllocation c words alloc_answer.Busy d → HasAllocated c t words (Err refusal.Interrupted) d u
+    → IsAllocation c words alloc_answer.Busy d → HasAllocatedNew c t words (Err refusal.Interrupted) d u
 busy-answers c t words d u idle has ready told =
     makes (alloc_bar c.pass words) (Allocs c t words) c t (Err refusal.Interrupted) d u (alloc-made c.pass words idle has) (ready, told)
 

@@ -1,17 +1,17 @@
 -- What calls have come to by which memory goes out to C, or comes home.
-use Rattle.std.proofs.Common.{ℕ, ◌≡◌, ◌≤◌, true, false, true≢false, Bool, Option, Some, None, Result, Ok, Err, List, refl, sym, ap, ◌∙◌, subst, inl, inr}
+use Rattle.std.proofs.Common.{ℕ, arith, ◌≡◌, ◌≤◌, true, false, true≢false, Bool, Option, Some, None, Result, Ok, Err, List, refl, sym, ap, ◌∙◌, subst, inl, inr}
 use Rattle.std.specs.Prelude.{length, nat_lt, not}
 use Rattle.std.proofs.lemmas.List.{length-map, length-replicate}
 use Rattle.plain_words.specs.Places.{laid, laids}
 use Rattle.live_heap.specs.Memory.{IsMemoryOf}
-use Rattle.std.proofs.lemmas.Bool.{cases_Bool, ltb-false}
-use Rattle.heap_geometry.specs.declared.limits.TheConstants.{LARGE_MOST}
-use Rattle.heap_geometry.specs.Need.{need_of}
+use Rattle.std.proofs.lemmas.Bool.{cases_Bool, cases_lt, ltb-false}
+use Rattle.heap_geometry.specs.declared.limits.TheConstants.{LARGE_MOST, SMALL_MOST}
+use Rattle.heap_geometry.specs.declared.need.Need.TheVariants.{Small}
+use Rattle.heap_geometry.specs.Need.{need_of, usable_words}
 use Rattle.errand_steps.specs.Begins.{IsIdle}
 use Rattle.errand_steps.specs.Points.{is_idle}
 use Rattle.plain_words.specs.declared.plain.PlainWords.{PlainWords}
 use denote.RawPtr.{Ptr, null_ptr}
-use Rattle.live_heap.specs.declared.answers.AllocAnswer.TheVariants as alloc_answer
 use Rattle.live_heap.specs.declared.block.Block.{Block}
 use Rattle.live_heap.specs.declared.pass.Pass.{Pass}
 use Rattle.live_heap.specs.declared.plain.Memory.{Memory}
@@ -31,9 +31,9 @@ use Rattle.balloc_c.specs.Handled.{IsBackOf}
 use Rattle.balloc_c.specs.Hands.{heap_of}
 use Rattle.balloc_c.specs.Lending.{AllocatesMemory, AreNumbers, GivesBack, HasComeHome, HasGoneOut, HasToldMemory, IsBackFor, IsRoomFor, NothingWhere, StayOut, StaysHome, TellsMemory, home_bar, memory_at, zeros}
 use Rattle.balloc_c.specs.Numbers.{NamesOneMore, named}
-use Rattle.balloc_c.specs.Outcomes.{Allocs, Answers, HasAllocated, alloc_bar, barred, is_busy}
-use Rattle.balloc_c.specs.Through.{IsAllocation}
+use Rattle.balloc_c.specs.Outcomes.{Allocs, Answers, HasAllocated, HasAllocatedNew, alloc_bar, barred, is_busy}
 use Rattle.balloc_c.proofs.BarLemmas.{makes, refuses, some-block}
+use Rattle.balloc_c.proofs.Enough.{block-enough, no-class}
 
 -- memory that is told, that is told again, and that isn't
 abbrev Tells : HeapFields → Cache → Table → ℕ → Ptr → Option PlainWords → Result (Unit {0}) Refusal → Cache → Table → Type 0
@@ -69,6 +69,7 @@ pub nothing-back : (h : HeapFields) (slot : Option Kept) (back : Option PlainWor
 nothing-back h None back home is = is
 nothing-back h (Some (kept.Home block)) back home is = is
 nothing-back h (Some (kept.Out lent)) back home is = absurd (true≢false home)
+nothing-back h (Some (kept.Resting block)) back home is = is
 nothing-back h (Some (kept.Laid memory)) back home is = is
 
 pub words-back :
@@ -111,11 +112,11 @@ stays-home c t number block idle names =
 pub home-refused : (c : Cache) (t : Table) (number : ℕ) (cause : Refusal) → home_bar c t number ≡ Some cause → StaysHome c t number (Err cause) c t
 home-refused c t number cause bar = refuses (home_bar c t number) cause (λ outcome d u. (outcome ≡ Ok tt) × (d ≡ c) × (u ≡ t)) c t bar
 
--- an allocation that gave a number: nothing barred it, it made its call, and leaves the pass in none
+-- an allocation that gave a number: nothing barred it, and it leaves the pass in no call
 pub record HasGiven (c : Cache) (t : Table) (words number : ℕ) (e : Cache) (v : Table) : Type 0 where
   pub block : Block
   pub names : NamesOneMore t number (kept.Home block) v
-  pub told : IsAllocation c words (alloc_answer.Given block) e
+  pub enough : words ≤ usable_words block.need
   pub few : words ≤ LARGE_MOST
   pub idle : IsIdle e.pass.errand
 
@@ -131,8 +132,18 @@ barred-not : (b : Bool) (cause : Refusal) (rest : Option Refusal) → barred b c
 barred-not true cause rest is = absurd (let no : Some cause ≡ None = is in cc)
 barred-not false cause rest is = (refl, is)
 
-pub has-given : (c : Cache) (t : Table) (words number : ℕ) (e : Cache) (v : Table) → HasAllocated c t words (Ok number) e v → HasGiven c t words number e v
-has-given c t words number e v allocated =
+same-ok : (m n : ℕ) (one other : Result ℕ Refusal) → one ≡ Ok m → other ≡ Ok n → one ≡ other → m ≡ n
+same-ok m n one other is_one is_other same = cc
+
+few-small : (words class : ℕ) → need_of words ≡ Small class → words ≤ LARGE_MOST
+few-small words class is =
+    elim (cases_lt SMALL_MOST words) [
+      | inl above ↦ absurd (no-class words class above is)
+      | inr small ↦ omega (arith, small)
+    ]
+
+given-new : (c : Cache) (t : Table) (words number : ℕ) (e : Cache) (v : Table) → HasAllocatedNew c t words (Ok number) e v → HasGiven c t words number e v
+given-new c t words number e v allocated =
     let made = answered (alloc_bar c.pass words) c t words number e v allocated in
     let one = barred-not (is_busy c.pass) refusal.InCall (barred (nat_lt LARGE_MOST words) refusal.TooLarge None) made.0 in
     let two = barred-not (nat_lt LARGE_MOST words) refusal.TooLarge None one.1 in
@@ -146,13 +157,25 @@ has-given c t words number e v allocated =
     record {
       block = block;
       names = made.1.1;
-      told = told;
+      enough = block-enough c e words block (few-of words two.0) told;
       few = few-of words two.0;
       idle = elim (for-or-not (stacks_in c) (need_of words)) [
         | inl has ↦ subst (λ (p : Pass). IsIdle p.errand) (sym (told.served has).2.pass) idle
         | inr none ↦ (told.asked none).0.0.called.idle
       ];
     }
+
+pub has-given : (c : Cache) (t : Table) (words number : ℕ) (e : Cache) (v : Table) → HasAllocated c t words (Ok number) e v → HasGiven c t words number e v
+has-given c t words number e v (inl (n, is, woke)) =
+    let same : n ≡ number = sym (same-ok number n (Ok number) (Ok n) refl refl is) in
+    record {
+      block = woke.block;
+      names = subst (λ (k : ℕ). NamesOneMore t k (kept.Home woke.block) v) same woke.again.more;
+      enough = woke.enough;
+      few = few-small words woke.ready.class woke.ready.small;
+      idle = subst (λ (d : Cache). IsIdle d.pass.errand) (sym woke.still) woke.idle;
+    }
+has-given c t words number e v (inr (none, allocated)) = given-new c t words number e v allocated
 
 pub alloc-nothing :
     (h : HeapFields) (c : Cache) (t : Table) (bytes : ℕ) (outcome : Result ℕ Refusal) (at : Ptr) (words : Option PlainWords) (d : Cache) (u : Table)

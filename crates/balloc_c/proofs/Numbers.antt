@@ -218,6 +218,7 @@ pub seen-some : (slot : Option Kept) (block : Kept) → seen slot ≡ Some block
 seen-some None block is = is
 seen-some (Some (kept.Home b)) block is = is
 seen-some (Some (kept.Out l)) block is = is
+seen-some (Some (kept.Resting b)) block is = absurd (some-not-none block (sym is))
 seen-some (Some (kept.Laid m)) block is = absurd (some-not-none block (sym is))
 
 -- a number that names a block names that in its slot

@@ -105,13 +105,19 @@ within-of (slot ∷ slots) zero block is = omega arith
 within-of (slot ∷ slots) (suc i) block is = let low = within-of slots i block is in omega (arith, low)
 
 -- the caller of the cache holds a block in a slot whose words are home
+pub held-of :
+    (h : HeapFields) (c : Cache) (slots : List Slot) (i : ℕ) (was : Kept) → Tends h c slots → IsIdle c.pass.errand → i < length slots
+    → block_at slots i ≡ Some was → IsHome c.pass (block_of was).place → HoldsBlock c (block_of was)
+held-of h c slots i was tends idle within is home =
+    let all = taken-out h c.pass slots i was (cached_in c) within is tends.all in
+    let held = (all.at_rest idle).0 in
+    ((held.0.0, home), all-back (λ (other : Block). other.place ≢ (block_of was).place) (lots_of (set_block slots i None)) (cached_in c) held.1)
+
 pub held-at :
     (h : HeapFields) (c : Cache) (slots : List Slot) (i : ℕ) (block : Block) → Tends h c slots → IsIdle c.pass.errand → i < length slots
     → block_at slots i ≡ Some (kept.Home block) → HoldsBlock c block
 held-at h c slots i block tends idle within is =
-    let all = taken-out h c.pass slots i (kept.Home block) (cached_in c) within is tends.all in
-    let held = (all.at_rest idle).0 in
-    ((held.0.0, subst (Stands h c.pass) is (tends.stand i)), all-back (λ (other : Block). other.place ≢ block.place) (lots_of (set_block slots i None)) (cached_in c) held.1)
+    held-of h c slots i (kept.Home block) tends idle within is (subst (Stands h c.pass) is (tends.stand i))
 
 -- the blocks in other slots lie at other places
 pub apart-at :
@@ -158,18 +164,18 @@ filled-tends h c d slots middle after i block tends is goes home blocks same vac
 
 -- and one where a block leaves its slot
 pub gone-tends :
-    (h : HeapFields) (c d : Cache) (slots middle after : List Slot) (i : ℕ) (block : Block) → Tends h c slots → i < length slots
-    → block_at slots i ≡ Some (kept.Home block) → middle ≡ set_block slots i None → blocks_of after ≡ blocks_of middle
+    (h : HeapFields) (c d : Cache) (slots middle after : List Slot) (i : ℕ) (was : Kept) → Tends h c slots → i < length slots
+    → block_at slots i ≡ Some was → middle ≡ set_block slots i None → blocks_of after ≡ blocks_of middle
     → ((j : ℕ) → block_at after j ≡ block_at middle j) → IsCache h d
-    → ((held : List Block) → Goes h c d (block ∷ held) held) → Tends h d after
-gone-tends h c d slots middle after i block tends within is set blocks same cache goes =
+    → ((held : List Block) → Goes h c d (block_of was ∷ held) held) → Tends h d after
+gone-tends h c d slots middle after i was tends within is set blocks same cache goes =
     let none : Slot = record (slice_index_or slots i no_slot) { block = None } in
     let bare = set_block slots i None in
     let went = goes (lots_of bare) in
     record {
       cache = cache;
       all = subst (λ (l : List Kept). HasAll h d.pass (map block_of l ++ cached_in d)) (sym (blocks ∙ ap blocks_of set))
-          (went.all (taken-out h c.pass slots i (kept.Home block) (cached_in c) within is tends.all));
+          (went.all (taken-out h c.pass slots i was (cached_in c) within is tends.all));
       stand = λ j. subst (Stands h d.pass) (sym (same j ∙ ap (λ (l : List Slot). block_at l j) set))
           (by_case
           (λ at. subst (λ (k : ℕ). Stands h d.pass (block_at bare k)) (sym at.1) (subst (Stands h d.pass) (sym (block-set_same slots i none within)) tt))

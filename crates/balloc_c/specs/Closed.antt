@@ -46,6 +46,7 @@ pub record HasHomed (c : Cache) (memory : Memory) (d : Cache) : Type 0 where
 abbrev pub FreesKept : Cache → Kept → FreeAnswer → Cache → Type 0
 FreesKept c (kept.Home block) answer d = IsFree c block answer d
 FreesKept c (kept.Out lent) answer d = ⊥
+FreesKept c (kept.Resting block) answer d = IsFree c block answer d
 FreesKept c (kept.Laid memory) answer d = (e : Cache) × HasHomed c memory e × IsFree e memory.block answer d
 
 -- the block of a slot was freed, or its free is under way; where there is none nothing has happened

@@ -11,6 +11,7 @@ use Rattle.balloc_c.specs.declared.kept.Kept.TheVariants as kept
 abbrev pub block_of : Kept → Block
 block_of (kept.Home block) = block
 block_of (kept.Out lent) = record { place = lent.place; need = lent.need; is_need = lent.is_need }
+block_of (kept.Resting block) = block
 block_of (kept.Laid memory) = memory.block
 
 -- the words of a slot's block are out with C
@@ -18,6 +19,7 @@ abbrev pub is_out : Option Kept → Bool
 is_out None = false
 is_out (Some (kept.Home block)) = false
 is_out (Some (kept.Out lent)) = true
+is_out (Some (kept.Resting block)) = false
 is_out (Some (kept.Laid memory)) = false
 
 -- they are out, and the pass keeps them
@@ -25,13 +27,15 @@ abbrev pub is_laid : Option Kept → Bool
 is_laid None = false
 is_laid (Some (kept.Home block)) = false
 is_laid (Some (kept.Out lent)) = false
+is_laid (Some (kept.Resting block)) = false
 is_laid (Some (kept.Laid memory)) = true
 
--- what a number can name: all but memory that the pass keeps
+-- what a number can name: all but what the pass keeps to give it again
 abbrev pub seen : Option Kept → Option Kept
 seen None = None
 seen (Some (kept.Home block)) = Some (kept.Home block)
 seen (Some (kept.Out lent)) = Some (kept.Out lent)
+seen (Some (kept.Resting block)) = None
 seen (Some (kept.Laid memory)) = None
 
 -- the memory of a block whose words are these

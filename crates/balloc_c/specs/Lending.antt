@@ -22,9 +22,9 @@ use Rattle.balloc_c.specs.declared.refusal.Refusal.{Refusal}
 use Rattle.balloc_c.specs.declared.refusal.Refusal.TheVariants as refusal
 use Rattle.balloc_c.specs.declared.table.Table.{Table}
 use Rattle.balloc_c.specs.Kept.{block_of, memory_of}
-use Rattle.balloc_c.specs.Laid.{HasRoomFor, IsReady, first_of, room_of}
-use Rattle.balloc_c.specs.Numbers.{GaveAway, NamesOneLess, NamesOneMore, named}
-use Rattle.balloc_c.specs.Slots.{next_at}
+use Rattle.balloc_c.specs.Laid.{HasRoomFor, IsGivenAgain, IsReady, IsReadyIn, first_of, like, room_of}
+use Rattle.balloc_c.specs.Numbers.{GaveAway, NamesOneLess, named}
+use Rattle.balloc_c.specs.Slots.{after_at}
 use Rattle.balloc_c.specs.Tended.{IsRoomAt}
 use Rattle.balloc_c.specs.Outcomes.{Answers, HasAllocated, HasFreed, barred, is_busy, names_none}
 
@@ -89,11 +89,11 @@ AllocatesNew h c t bytes (Ok number) at words d u =
     × (bytes ≤ 8 * usable_words memory.block.need) × HasGoneOut h e v number memory d u
 AllocatesNew h c t bytes (Err cause) at words d u = (at ≡ null_ptr) × (words ≡ None) × HasAllocated c t (words_for bytes) (Err cause) d u
 
--- memory that the pass keeps goes out again, which has as many bytes: all usable words of its block, aligned to 16 bytes. A number names the block that named none, the pass and its magazines stand as they stood, there is room for one more, and the slot that its slot named is the next
+-- memory that the pass keeps goes out again, which has as many bytes: all usable words of its block, aligned to 16 bytes. The pass and its magazines stand as they stood
 pub record GivesAgain (h : HeapFields) (c : Cache) (t : Table) (bytes number : ℕ) (at : Ptr) (words : Option PlainWords) (d : Cache) (u : Table) : Type 0 where
   pub idle : IsIdle c.pass.errand
   pub memory : Memory
-  pub ready : IsReady t (need_of (words_for bytes)) memory
+  pub ready : IsReady t (need_of (words_for bytes)) (kept.Laid memory)
   pub is : words ≡ Some memory.words
   pub begins : at ≡ memory_at h memory.block.place
   pub enough : bytes ≤ 8 * usable_words memory.block.need
@@ -101,16 +101,14 @@ pub record GivesAgain (h : HeapFields) (c : Cache) (t : Table) (bytes number : �
   pub aligned : memory.words.first % 2 ≡ 1
   pub lent : LentBlock
   pub token : block_of (kept.Out lent) ≡ memory.block
-  pub more : NamesOneMore t number (kept.Out lent) u
-  pub left : room_of u ready.class ≡ (room_of t ready.class + 1) % 2 ^ 8
-  pub next : first_of u ready.class ≡ next_at t.slots.items (first_of t ready.class)
+  pub again : IsGivenAgain t ready.class number (kept.Out lent) u
   pub still : d ≡ c
 
 -- an allocation of so many bytes: of memory that the pass keeps, and where none of it serves so many, of a block
 abbrev pub AllocatesMemory : HeapFields → Cache → Table → ℕ → Result ℕ Refusal → Ptr → Option PlainWords → Cache → Table → Type 0
 AllocatesMemory h c t bytes outcome at words d u =
     ((number : ℕ) × (outcome ≡ Ok number) × GivesAgain h c t bytes number at words d u)
-    ⊎ ((IsIdle c.pass.errand → (memory : Memory) → ¬ IsReady t (need_of (words_for bytes)) memory) × AllocatesNew h c t bytes outcome at words d u)
+    ⊎ ((IsIdle c.pass.errand → (memory : Memory) → ¬ IsReady t (need_of (words_for bytes)) (kept.Laid memory)) × AllocatesNew h c t bytes outcome at words d u)
 
 -- words are those of the block
 abbrev pub IsRoomFor : HeapFields → LentBlock → PlainWords → Type 0
@@ -156,23 +154,27 @@ zeros words = replicate (length words.places) 0
 abbrev pub FreesHome : HeapFields → Cache → Table → ℕ → Option PlainWords → Result (Unit {0}) Refusal → Option PlainWords → Cache → Table → Type 0
 FreesHome h c t number = GivesBack h c t number zeros (λ e v result d u. HasFreed e v number result d u)
 
--- the pass keeps the words, and gives them again before those that were next; the number names nothing from then on, and the pass and its magazines stand as they stood
+-- what a slot's block is kept as when it is freed: one that is home rests, and of one that is out the words that came back are laid by
+abbrev pub IsKeptAs : Kept → Option PlainWords → Kept → Type 0
+IsKeptAs (kept.Home block) back now = (back ≡ None) × (now ≡ kept.Resting block)
+IsKeptAs (kept.Out lent) back now = (words : PlainWords) × (back ≡ Some words) × (now ≡ kept.Laid (memory_of lent words))
+IsKeptAs it back now = ⊥
+
+-- the pass keeps the block, and gives it again before those that were next; the number names nothing from then on, and the pass and its magazines stand as they stood
 pub record KeepsBack (c : Cache) (t : Table) (number : ℕ) (back : Option PlainWords) (result : Result (Unit {0}) Refusal) (left : Option PlainWords) (d : Cache) (u : Table) : Type 0 where
   pub idle : IsIdle c.pass.errand
   pub room : HasRoomFor t (named t number)
-  pub lent : LentBlock
-  pub was : named t number ≡ Some (kept.Out lent)
-  pub words : PlainWords
-  pub is : back ≡ Some words
+  pub now : Kept
+  pub becomes : IsKeptAs room.it back now
   pub made : result ≡ Ok tt
   pub nothing : left ≡ None
   pub less : NamesOneLess t number u
-  pub ready : IsReady u lent.need (memory_of lent words)
-  pub fewer : room_of u room.class + 1 ≡ room_of t room.class
-  pub chain : next_at u.slots.items (number % 2 ^ 32) ≡ first_of t room.class
+  pub ready : IsReadyIn u room.class now
+  pub fewer : room_of (like u now) room.class + 1 ≡ room_of (like t now) room.class
+  pub chain : after_at u.slots.items (number % 2 ^ 32) ≡ first_of (like t now) room.class
   pub still : d ≡ c
 
--- a free, for which words that were out stay out with the pass, where that has room for them, and else come home as zeros
+-- a free: the pass keeps the block as it is, where it has room for it; else words that were out come home as zeros, and it goes to a magazine or the heap
 abbrev pub FreesBack : HeapFields → Cache → Table → ℕ → Option PlainWords → Result (Unit {0}) Refusal → Option PlainWords → Cache → Table → Type 0
 FreesBack h c t number back result left d u =
     KeepsBack c t number back result left d u

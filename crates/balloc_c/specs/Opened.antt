@@ -33,7 +33,7 @@ AreEmpty handles = (number : ℕ) → held_at handles number ≡ None
 abbrev pub Fit : Geometry → ℕ → Type 0
 Fit g depth = IsChecked g × (depth ≤ 64)
 
--- the pass of this caller of the heap, with the ticket for it, which has made no step, and has no block and no slot for one; its magazines are empty, and have room for so many each, and so many it may keep whose words are out
+-- the pass of this caller of the heap, with the ticket for it, which has made no step, and has no block and no slot for one; its magazines are empty, and have room for so many each, and so many it may keep that are home, and so many whose words are out
 pub record IsNew (h : HeapFields) (number depth : ℕ) (hand : Hand) : Type 0 where
   pub heap : heap_of hand ≡ h
   pub fresh : IsFresh h hand.cache.pass
@@ -43,7 +43,7 @@ pub record IsNew (h : HeapFields) (number depth : ℕ) (hand : Hand) : Type 0 wh
   pub blocks : blocks_of hand.table.slots.items ≡ []
   pub empty : cached_in hand.cache ≡ []
   pub deep : hand.cache.magazines.depth ≡ depth
-  pub rooms : (class : ℕ) → class < CLASSES → room_of hand.table class ≡ depth
+  pub rooms : (class : ℕ) → class < CLASSES → (room_of hand.table.resting class ≡ depth) × (room_of hand.table.laid class ≡ depth)
   pub hits : hand.cache.hits ≡ 0
 
 -- the first handles hold the passes of the first callers of the heap

@@ -1,7 +1,8 @@
 -- What a call on a pass for C comes to: what bars it, and what it makes where nothing does.
-use Rattle.std.specs.Prelude.{ℕ, ◌≡◌, Bool, true, false, not, nat_lt, nat_le, Option, Some, None, is_none, Result, Ok, Err}
+use Rattle.std.specs.Prelude.{ℕ, ◌≡◌, ◌≤◌, ◌⊎◌, Bool, true, false, not, nat_lt, nat_le, Option, Some, None, is_none, Result, Ok, Err}
 use Rattle.heap_geometry.specs.declared.limits.TheConstants.{LARGE_MOST, SHELVES}
-use Rattle.heap_geometry.specs.Need.{usable_words}
+use Rattle.heap_geometry.specs.Need.{need_of, usable_words}
+use Rattle.errand_steps.specs.Begins.{IsIdle}
 use Rattle.errand_steps.specs.declared.reply.Reply.TheVariants as reply
 use Rattle.errand_steps.specs.Calls.{Call, put, read, write}
 use Rattle.errand_steps.specs.Points.{is_idle}
@@ -25,6 +26,7 @@ use Rattle.balloc_c.specs.declared.hand.Hand.{Hand}
 use Rattle.balloc_c.specs.declared.refusal.Refusal.{Refusal}
 use Rattle.balloc_c.specs.declared.refusal.Refusal.TheVariants as refusal
 use Rattle.balloc_c.specs.declared.table.Table.{Table}
+use Rattle.balloc_c.specs.Laid.{IsGivenAgain, IsReady}
 use Rattle.balloc_c.specs.Numbers.{NamesOneMore, HasSlotReady, KeepsNumbers, NamesOneLess, named}
 use Rattle.balloc_c.specs.Packed.{HasOneMoreAtMost}
 use Rattle.balloc_c.specs.Through.{Asked, IsAllocation, IsFree}
@@ -144,9 +146,27 @@ Resumes h c t (Err refusal.Interrupted) d u = HasSlotReady t u × GoesOnTo h c r
 Resumes h c t (Err refusal.NoMemory) d u = Stays c t d u
 Resumes h c t (Err cause) d u = ⊥
 
+-- a block that rests is given again, which has as many words, all home. The pass and its magazines stand as they stood
+pub record Wakes (c : Cache) (t : Table) (words number : ℕ) (d : Cache) (u : Table) : Type 0 where
+  pub idle : IsIdle c.pass.errand
+  pub block : Block
+  pub ready : IsReady t (need_of words) (kept.Resting block)
+  pub enough : words ≤ usable_words block.need
+  pub again : IsGivenAgain t ready.class number (kept.Home block) u
+  pub still : d ≡ c
+
+-- no block rests for so many words, where no call is under way
+abbrev pub NoneRests : Cache → Table → ℕ → Type 0
+NoneRests c t words = IsIdle c.pass.errand → (block : Block) → ¬ IsReady t (need_of words) (kept.Resting block)
+
 -- what each call comes to, with what bars it
+abbrev pub HasAllocatedNew : Cache → Table → ℕ → Result ℕ Refusal → Cache → Table → Type 0
+HasAllocatedNew c t words = Answers (alloc_bar c.pass words) (Allocs c t words) c t
+
+-- an allocation of so many words: of a block that rests, and where none serves so many, of a magazine or the heap
 abbrev pub HasAllocated : Cache → Table → ℕ → Result ℕ Refusal → Cache → Table → Type 0
-HasAllocated c t words = Answers (alloc_bar c.pass words) (Allocs c t words) c t
+HasAllocated c t words outcome d u =
+    ((number : ℕ) × (outcome ≡ Ok number) × Wakes c t words number d u) ⊎ (NoneRests c t words × HasAllocatedNew c t words outcome d u)
 
 abbrev pub HasFreed : Cache → Table → ℕ → Result (Unit {0}) Refusal → Cache → Table → Type 0
 HasFreed c t number = Answers (free_bar c.pass t number) (Frees c t number) c t

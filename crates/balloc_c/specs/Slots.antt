@@ -24,7 +24,7 @@ lots_of slots = map block_of (blocks_of slots)
 
 -- a slot that there is not
 abbrev pub no_slot : Slot
-no_slot = record { block = None; age = 0; next = 0 }
+no_slot = record { block = None; age = 0; next = 0; after = 0 }
 
 -- the block in a slot, and how often the slot has given a block away
 abbrev pub block_at : List Slot → ℕ → Option Kept
@@ -36,6 +36,10 @@ age_at slots index = (slice_index_or slots index no_slot).age
 -- the slot that was the spare one before it
 abbrev pub next_at : List Slot → ℕ → ℕ
 next_at slots index = (slice_index_or slots index no_slot).next
+
+-- the number under which one of its class is given after the block that is kept in it
+abbrev pub after_at : List Slot → ℕ → ℕ
+after_at slots index = (slice_index_or slots index no_slot).after
 
 -- the slot is there, and has no block
 abbrev pub IsVacant : List Slot → ℕ → Type 0

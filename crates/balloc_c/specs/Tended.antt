@@ -60,11 +60,12 @@ pub record IsRoomAt (h : HeapFields) (place : ℕ) (need : Need) (words : PlainW
 abbrev pub IsOutAt : HeapFields → Pass → ℕ → Need → Type 0
 IsOutAt h p place need = IsTaken p place need × Lies h.region.at (place + 1) × (place % 2 ≡ 0)
 
--- the words of a slot's block are home, or they are out, with C or with the pass
+-- the words of a slot's block are home, where it rests too, or they are out, with C or with the pass
 abbrev pub Stands : HeapFields → Pass → Option Kept → Type 0
 Stands h p None = Unit {0}
 Stands h p (Some (kept.Home block)) = IsHome p block.place
 Stands h p (Some (kept.Out lent)) = IsOutAt h p lent.place lent.need
+Stands h p (Some (kept.Resting block)) = IsHome p block.place
 Stands h p (Some (kept.Laid memory)) =
     IsOutAt h p memory.block.place memory.block.need × IsRoomAt h memory.block.place memory.block.need memory.words
 

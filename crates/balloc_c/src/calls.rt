@@ -1,16 +1,17 @@
 //! Calls on a pass with magazines, whose blocks have numbers.
 
-ghost use Rattle.std.specs.Prelude.{ℕ, ◌≡◌, ◌<◌, ◌%◌, ◌^◌, None, Some, false, length, not, true};
+ghost use Rattle.std.specs.Prelude.{ℕ, ◌≡◌, ◌<◌, ◌≤◌, ◌%◌, ◌^◌, IfSome, None, Some, false, length, not, true};
+ghost use Rattle.heap_geometry.specs.Need.{need_of};
+ghost use Rattle.heap_geometry.specs.declared.limits.TheConstants.{CLASSES, LARGE_MOST};
+ghost use Rattle.heap_geometry.specs.declared.need.Need.TheVariants.{Small};
 ghost use Rattle.errand_steps.specs.Begins.{IsIdle};
 ghost use Rattle.live_heap.specs.declared.block.Block.{Block};
-ghost use Rattle.live_heap.specs.Heaps.{HeapFields};
 ghost use Rattle.live_heap.specs.declared.plain.Memory.{Memory};
-ghost use Rattle.block_cache.specs.Caches.{IsCache};
 ghost use Rattle.balloc_c.specs.declared.kept.Kept.TheVariants as kept;
-ghost use Rattle.balloc_c.specs.Outcomes.{TellsWords, HasAllocated, HasFreed, HasPut, HasRead, HasResumed, HasTaken, HasWritten};
+ghost use Rattle.balloc_c.specs.Outcomes.{TellsWords, HasAllocated, HasAllocatedNew, HasFreed, HasPut, HasRead, HasResumed, HasTaken, HasWritten, NoneRests, Wakes};
 ghost use Rattle.balloc_c.specs.Closed.{FreesSlot, FreesTable, HasFreedAll, HasHomed, has_out};
 ghost use Rattle.balloc_c.specs.Kept.{is_laid, is_out};
-ghost use Rattle.balloc_c.specs.Laid.{HasTurned};
+ghost use Rattle.balloc_c.specs.Laid.{HasTurned, IsReadyIn, slot_of};
 ghost use Rattle.balloc_c.specs.Numbers.{named};
 ghost use Rattle.balloc_c.specs.Packed.{HasOneMoreAtMost, IsPacked};
 ghost use Rattle.balloc_c.specs.Slots.{block_at, set_block};
@@ -23,7 +24,6 @@ use crate::table::Table;
 use crate::zeroed::zeroed;
 use block_cache::cache::Cache;
 use heap_geometry::limits::{LARGE_MOST, SHELVES};
-use heap_geometry::need::{Need, class_of};
 use live_heap::answers::{AllocAnswer, FreeAnswer, Full, Resumed, Taken};
 use live_heap::heap::Heap;
 use live_heap::plain::Memory;
@@ -31,16 +31,42 @@ use live_heap::plain::Memory;
 /// How many lost exchanges interrupt a call.
 pub const TRIES: u32 = 1000;
 
-/// Whether no call is under way, a magazine has a block for so many words, and a slot stands ready for that.
+/// The class of blocks for so many words, where no call is under way and one rests, behind its slot.
 #[inline(always)]
-pub fn is_ready(cache: &Cache, table: &Table, words: u32) -> bool
-    requires { (h : HeapFields) × IsCache h cache.now }
-    ensures { result ≡ true → IsIdle cache.now.pass.errand }
+pub fn next_resting(cache: &Cache, table: &Table, words: u32) -> Option<(usize, u8)>
+    ensures ready { IfSome result (λ next. IsIdle cache.now.pass.errand × (next.1 < CLASSES) × (words ≤ LARGE_MOST) × (need_of words ≡ Small next.1)
+        × (next.0 ≡ slot_of table.now.resting next.1) × ((block : Block) × IsReadyIn table.now next.1 (kept.Resting block))) }
+    ensures none { result ≡ None → NoneRests cache.now table.now words }
 {
-    match class_of(words) {
-        Need::Small(class) => cache.idle() && table.has_spare() && cache.cached(class) > 0,
-        _ => false,
+    if !cache.idle() {
+        return None;
     }
+    table.at_rest(words)
+}
+
+/// A block that rests is given again, the next of its class. Answers its number.
+#[inline(always)]
+pub fn wake(
+    _heap: &Heap,
+    _cache: &Cache,
+    table: &mut Table,
+    index: usize,
+    class: u8,
+    _words: u32,
+) -> u64
+    requires tends { Tends _heap.now _cache.now table.old.slots.items }
+    requires packed { IsPacked table.old }
+    requires idle { IsIdle _cache.now.pass.errand }
+    requires within { class < CLASSES }
+    requires first { index ≡ slot_of table.old.resting class }
+    requires ready { (block : Block) × IsReadyIn table.old class (kept.Resting block) }
+    requires words { (_words ≤ LARGE_MOST) × (need_of _words ≡ Small class) }
+    ensures tends { Tends _heap.now _cache.now table.new.slots.items }
+    ensures packed { IsPacked table.new }
+    ensures count { length table.new.slots.items ≡ length table.old.slots.items }
+    ensures woken { Wakes _cache.now table.old _words result _cache.now table.new }
+{
+    table.wake(index, class)
 }
 
 /// An allocation of so many usable words. Answers the block's number.
@@ -52,6 +78,26 @@ pub fn alloc(heap: &Heap, cache: &mut Cache, table: &mut Table, words: u32) -> R
     ensures packed { IsPacked table.new }
     ensures few { HasOneMoreAtMost table.old table.new }
     ensures answers { HasAllocated cache.old table.old words result cache.new table.new }
+{
+    match next_resting(cache, table, words) {
+        Some((index, class)) => Ok(wake(heap, cache, table, index, class, words)),
+        None => alloc_new(heap, cache, table, words),
+    }
+}
+
+/// The same of a magazine or the heap.
+pub fn alloc_new(
+    heap: &Heap,
+    cache: &mut Cache,
+    table: &mut Table,
+    words: u32,
+) -> Result<u64, Refusal>
+    requires tends { Tends heap.now cache.old table.old.slots.items }
+    requires packed { IsPacked table.old }
+    ensures tends { Tends heap.now cache.new table.new.slots.items }
+    ensures packed { IsPacked table.new }
+    ensures few { HasOneMoreAtMost table.old table.new }
+    ensures answers { HasAllocatedNew cache.old table.old words result cache.new table.new }
 {
     if !cache.idle() {
         return Err(Refusal::InCall);
@@ -73,6 +119,7 @@ pub fn alloc(heap: &Heap, cache: &mut Cache, table: &mut Table, words: u32) -> R
 }
 
 /// The free of the block in a slot, whose number this is and whose words are home.
+#[inline(never)]
 pub fn free_home(
     heap: &Heap,
     cache: &mut Cache,
@@ -214,11 +261,10 @@ fn free_kept(heap: &Heap, cache: &mut Cache, table: &mut Table, index: usize) ->
 {
     match table.set(index, None) {
         None => FreeAnswer::Freed,
-        Some(Kept::Home(block)) => {
+        Some(kept) => {
             table.retire(index);
-            cache.free(heap, block, TRIES)
+            cache.free(heap, kept.into_home(), TRIES)
         }
-        Some(_) => unreachable!(),
     }
 }
 

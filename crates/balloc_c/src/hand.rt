@@ -32,7 +32,7 @@ pub struct Hand {
 }
 
 impl Hand {
-    ghost use Rattle.balloc_c.specs.Outcomes.{TellsWords, HasAllocated, HasPut, HasRead, HasResumed, HasTaken, HasWritten, Makes, counts_of};
+    ghost use Rattle.balloc_c.specs.Outcomes.{TellsWords, HasAllocated, HasPut, HasRead, HasResumed, HasTaken, HasWritten, Makes, NoneRests, counts_of};
     ghost use Rattle.balloc_c.specs.Closed.{GivesBack, LeavesBlocks, TellsCensus};
     ghost use Rattle.balloc_c.specs.Ranges.{HasFilled, HasReadRange, HasSummed, HasWrittenRange, IsFound};
     ghost use Rattle.balloc_c.specs.Hands.{IsTended, heap_of};
@@ -42,13 +42,13 @@ impl Hand {
     ghost use Rattle.balloc_c.specs.declared.refusal.Refusal.TheVariants as refusal;
     ghost use Rattle.balloc_c.specs.Codes.{code_in, code_of, value_in, word_in, word_of};
 
-    /// A pass with no block, and no slot for one, which keeps memory of so many of a class.
+    /// A pass with no block, and no slot for one, which keeps so many of a class that are home, and so many that are out.
     pub fn new(alloc: Global, heap: SharedHeap, ticket: Ticket, cache: Cache, depth: u8) -> Hand
         requires tends { Tends (arc_value heap.heap) cache [] }
         requires ticket { IsTicketOf heap ticket.caller ticket }
         ensures parts { (result.heap ≡ heap) × (result.cache ≡ cache) × (result.ticket ≡ ticket) }
         ensures bare { result.table.slots.items ≡ [] }
-        ensures rooms { (class : ℕ) → class < CLASSES → room_of result.table class ≡ depth }
+        ensures rooms { (class : ℕ) → class < CLASSES → (room_of result.table.resting class ≡ depth) × (room_of result.table.laid class ≡ depth) }
     {
         Hand {
             heap,
@@ -72,25 +72,32 @@ impl Hand {
             × Makes (λ c t. HasAllocated c t words) self.old outcome self.new }
     {
         self.tended();
-        if calls::is_ready(&self.cache, &self.table, words) {
-            code_with(
-                calls::alloc(self.heap.heap(), &mut self.cache, &mut self.table, words),
-                id,
-            )
-        } else {
-            self.alloc_away(words, id)
+        match calls::next_resting(&self.cache, &self.table, words) {
+            Some((index, class)) => {
+                let number = calls::wake(
+                    self.heap.heap(),
+                    &self.cache,
+                    &mut self.table,
+                    index,
+                    class,
+                    words,
+                );
+                code_with(Ok(number), id)
+            }
+            None => self.alloc_away(words, id),
         }
     }
 
     /// The same allocation, apart from who makes it.
     #[inline(never)]
     fn alloc_away(&mut self, words: u32, id: &mut u64) -> i32
+        requires { NoneRests self.old.cache self.old.table words }
         ensures { (outcome : Result ℕ Refusal) × (result ≡ code_in outcome) × (id.new ≡ value_in outcome id.old)
             × Makes (λ c t. HasAllocated c t words) self.old outcome self.new }
     {
         self.tended();
         code_with(
-            calls::alloc(self.heap.heap(), &mut self.cache, &mut self.table, words),
+            calls::alloc_new(self.heap.heap(), &mut self.cache, &mut self.table, words),
             id,
         )
     }

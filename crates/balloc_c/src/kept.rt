@@ -1,9 +1,9 @@
-//! What a slot of the table has: a block that is home, what is known of one whose memory is out with C, or memory that the
-//! pass keeps.
+//! What a slot of the table has: a block that is home, what is known of one whose memory is out with C, or what the pass
+//! keeps, home or out.
 
-ghost use Rattle.std.specs.Prelude.{◌≡◌};
+ghost use Rattle.std.specs.Prelude.{◌≡◌, Some, false};
 ghost use Rattle.heap_geometry.specs.Need.{usable_words};
-ghost use Rattle.balloc_c.specs.Kept.{block_of};
+ghost use Rattle.balloc_c.specs.Kept.{block_of, is_laid, is_out};
 
 use crate::lent::LentBlock;
 use heap_geometry::need::usable;
@@ -17,6 +17,8 @@ pub enum Kept {
     Home(Block),
     /// Its words are out with C.
     Out(LentBlock),
+    /// Its words are home, and the pass keeps it to give it again: no number names it.
+    Resting(Block),
     /// Its words are out, and the pass keeps them to give them again: no number names it.
     Laid(Memory),
 }
@@ -29,7 +31,21 @@ impl Kept {
         match self {
             Kept::Home(block) => block.usable_words(),
             Kept::Out(lent) => usable(lent.need),
+            Kept::Resting(block) => block.usable_words(),
             Kept::Laid(memory) => memory.usable_words(),
+        }
+    }
+
+    /// The block, whose words are home.
+    pub fn into_home(self) -> Block
+        requires out { is_out (Some self) ≡ false }
+        requires laid { is_laid (Some self) ≡ false }
+        ensures { result ≡ block_of self }
+    {
+        match self {
+            Kept::Home(block) => block,
+            Kept::Resting(block) => block,
+            _ => unreachable!(),
         }
     }
 }

@@ -19,7 +19,7 @@ ghost use Rattle.balloc_c.specs.declared.refusal.Refusal.TheVariants as refusal;
 ghost use Rattle.balloc_c.specs.Codes.{code_of, value_in, word_in, word_of};
 ghost use Rattle.balloc_c.specs.declared.lent.LentBlock.{LentBlock as Out};
 ghost use Rattle.balloc_c.specs.Kept.{block_of};
-ghost use Rattle.balloc_c.specs.Laid.{IsReady, IsReadyIn, first_of};
+ghost use Rattle.balloc_c.specs.Laid.{IsReady, IsReadyIn, slot_of};
 ghost use Rattle.balloc_c.specs.Lending.{AllocatesNew, AreNumbers, BringsHome, FreesBack, FreesHome, GivesAgain, HasComeHome, HasGoneOut, HasToldMemory, IsBackFor, IsRoomFor, StayOut, memory_at, words_for};
 ghost use Rattle.balloc_c.specs.Numbers.{named};
 ghost use Rattle.balloc_c.specs.Packed.{HasOneMoreAtMost, IsPacked};
@@ -162,7 +162,40 @@ pub fn free_back(
     if table.is_out(index) {
         return free_lent(heap, cache, table, index, number, back);
     }
-    Handed::none(word(free_home(heap, cache, table, index, number)))
+    free_whole(heap, cache, table, index, number)
+}
+
+/// The free of the block in a slot, whose number this is and whose words are home: it rests there, where the pass has room
+/// for it.
+#[inline(always)]
+fn free_whole(
+    heap: &Heap,
+    cache: &mut Cache,
+    table: &mut Table,
+    index: usize,
+    number: u64,
+) -> Handed
+    requires tends { Tends heap.now cache.old table.old.slots.items }
+    requires packed { IsPacked table.old }
+    requires idle { IsIdle cache.old.pass.errand }
+    requires within { index < length table.old.slots.items }
+    requires is { index ≡ number % 2 ^ 32 }
+    requires home { (block : Block) × (block_at table.old.slots.items index ≡ Some (kept.Home block)) }
+    requires named { named table.old number ≡ block_at table.old.slots.items index }
+    requires names { named table.old number ≢ None }
+    ensures tends { Tends heap.now cache.new table.new.slots.items }
+    ensures packed { IsPacked table.new }
+    ensures few { HasOneMoreAtMost table.old table.new }
+    ensures answers { (outcome : Result (Unit {0}) Cause) × (result.code ≡ word_in outcome) × StayOut outcome result.words
+        × FreesBack heap.now cache.old table.old number None outcome result.words cache.new table.new }
+{
+    match table.rest_room(index) {
+        Some(class) => {
+            table.rest(index, class, number);
+            Handed::none(word(Ok(())))
+        }
+        None => Handed::none(word(free_home(heap, cache, table, index, number))),
+    }
 }
 
 /// The free of the block in a slot, whose number this is and whose words are out.
@@ -192,7 +225,7 @@ fn free_lent(
 {
     match table.room(index) {
         Some(class) => {
-            table.lay(index, class, back.into_words());
+            table.lay(index, class, number, back.into_words());
             Handed::none(word(Ok(())))
         }
         None => Handed::none(word(free_out(heap, cache, table, index, number, back))),
@@ -292,8 +325,8 @@ fn is_small(bytes: usize) -> bool
 pub fn next_ready(cache: &Cache, table: &Table, bytes: usize) -> Option<(usize, u8)>
     requires { (h : HeapFields) × IsCache h cache.now }
     ensures ready { IfSome result (λ next. IsIdle cache.now.pass.errand × (next.1 < CLASSES) × (words_for bytes ≤ LARGE_MOST)
-        × (need_of (words_for bytes) ≡ Small next.1) × (next.0 ≡ first_of table.now next.1) × ((memory : Lot) × IsReadyIn table.now next.1 memory)) }
-    ensures none { result ≡ None → IsIdle cache.now.pass.errand → (memory : Lot) → ¬ IsReady table.now (need_of (words_for bytes)) memory }
+        × (need_of (words_for bytes) ≡ Small next.1) × (next.0 ≡ slot_of table.now.laid next.1) × ((memory : Lot) × IsReadyIn table.now next.1 (kept.Laid memory))) }
+    ensures none { result ≡ None → IsIdle cache.now.pass.errand → (memory : Lot) → ¬ IsReady table.now (need_of (words_for bytes)) (kept.Laid memory) }
 {
     if !cache.idle() {
         return None;
@@ -318,8 +351,8 @@ pub fn give_again(
     requires tends { Tends heap.now _cache.now table.old.slots.items }
     requires packed { IsPacked table.old }
     requires within { class < CLASSES }
-    requires first { index ≡ first_of table.old class }
-    requires ready { (memory : Lot) × IsReadyIn table.old class memory }
+    requires first { index ≡ slot_of table.old.laid class }
+    requires ready { (memory : Lot) × IsReadyIn table.old class (kept.Laid memory) }
     requires words { (words_for _bytes ≤ LARGE_MOST) × (need_of (words_for _bytes) ≡ Small class) }
     ensures tends { Tends heap.now _cache.now table.new.slots.items }
     ensures packed { IsPacked table.new }

@@ -25,26 +25,76 @@ use std::alloc::Global;
 /// No slot has this index.
 const NONE: u32 = 0xffff_ffff;
 
+/// No block is given under this number: no slot has its lower half as its index.
+const NOTHING: u64 = 0xffff_ffff;
+
+/// Whether blocks of this class serve it.
+#[inline(always)]
+fn is_small(need: Need, class: u8) -> bool
+    ensures yes { result ≡ true → need ≡ Small class }
+    ensures no { result ≡ false → need ≢ Small class }
+{
+    match need {
+        Need::Small(own) => own == class,
+        _ => false,
+    }
+}
+
 /// A slot for a block.
 #[derive(Drop)]
 pub struct Slot {
     block: Option<Kept>,
     /// How often the slot has given a block away, modulo 2^32.
     age: u32,
-    /// The slot that was spare before this one; where the pass keeps its memory, the one that is given after it.
+    /// The slot that was spare before this one.
     next: u32,
+    /// Where the pass keeps its block, the number under which one of its class is given after it.
+    after: u64,
 }
 
 impl Slot {
     ghost use Rattle.balloc_c.specs.Kept.{block_of, memory_of};
 
+    /// Its block, whose words are home, rests here, and no number names it any more.
+    #[inline(always)]
+    fn rest(&mut self, after: u64)
+        requires { (block : Block) × (self.old.block ≡ Some (kept.Home block)) }
+        ensures rests { (block : Block) × (self.old.block ≡ Some (kept.Home block)) × (self.new.block ≡ Some (kept.Resting block)) }
+        ensures age { self.new.age ≡ (self.old.age + 1) % 2 ^ 32 }
+        ensures next { self.new.next ≡ self.old.next }
+        ensures after { self.new.after ≡ after }
+    {
+        match std::mem::replace(&mut self.block, None) {
+            Some(Kept::Home(block)) => self.block = Some(Kept::Resting(block)),
+            _ => unreachable!(),
+        }
+        self.age = self.age.wrapping_add(1);
+        self.after = after;
+    }
+
+    /// The block that rests here has a number again.
+    #[inline(always)]
+    fn wake(&mut self)
+        requires { (block : Block) × (self.old.block ≡ Some (kept.Resting block)) }
+        ensures woken { (block : Block) × (self.old.block ≡ Some (kept.Resting block)) × (self.new.block ≡ Some (kept.Home block)) }
+        ensures age { self.new.age ≡ self.old.age }
+        ensures next { self.new.next ≡ self.old.next }
+        ensures after { self.new.after ≡ self.old.after }
+    {
+        match std::mem::replace(&mut self.block, None) {
+            Some(Kept::Resting(block)) => self.block = Some(Kept::Home(block)),
+            _ => unreachable!(),
+        }
+    }
+
     /// The words of its block, which were out, are kept here, and no number names it any more.
     #[inline(always)]
-    fn lay(&mut self, next: u32, words: PlainWords)
+    fn lay(&mut self, after: u64, words: PlainWords)
         requires { (lent : Out) × (self.old.block ≡ Some (kept.Out lent)) }
         ensures laid { (lent : Out) × (self.old.block ≡ Some (kept.Out lent)) × (self.new.block ≡ Some (kept.Laid (memory_of lent words))) }
         ensures age { self.new.age ≡ (self.old.age + 1) % 2 ^ 32 }
-        ensures next { self.new.next ≡ next }
+        ensures next { self.new.next ≡ self.old.next }
+        ensures after { self.new.after ≡ after }
     {
         match std::mem::replace(&mut self.block, None) {
             Some(Kept::Out(lent)) => {
@@ -53,7 +103,7 @@ impl Slot {
             _ => unreachable!(),
         }
         self.age = self.age.wrapping_add(1);
-        self.next = next;
+        self.after = after;
     }
 
     /// The words that are kept here go out.
@@ -64,6 +114,7 @@ impl Slot {
         ensures out { (lent : Out) × (self.new.block ≡ Some (kept.Out lent)) × (block_of (kept.Out lent) ≡ result.block) }
         ensures age { self.new.age ≡ self.old.age }
         ensures next { self.new.next ≡ self.old.next }
+        ensures after { self.new.after ≡ self.old.after }
     {
         match std::mem::replace(&mut self.block, None) {
             Some(Kept::Laid(memory)) => {
@@ -81,27 +132,29 @@ pub struct Table {
     slots: Vec<Slot>,
     /// The slot for the next block.
     spare: u32,
-    /// What the pass keeps to give again. Each slot of a class names the next one, which binds nobody.
+    /// What the pass keeps to give again, home and out. The slot of each has the number of the next one, which binds nobody.
+    resting: Laid,
     laid: Laid,
 }
 
 impl Table {
     ghost use Rattle.balloc_c.specs.Kept.{block_of, is_laid, is_out, memory_of, seen};
-    ghost use Rattle.balloc_c.specs.Laid.{HasRoomFor, HasTurned, IsReady, IsReadyIn, first_of, room_of};
+    ghost use Rattle.balloc_c.specs.Laid.{HasRoomFor, HasTurned, IsGivenAgain, IsReady, IsReadyIn, first_of, room_of, slot_of};
     ghost use Rattle.balloc_c.specs.Numbers.{NamesOneLess, NamesOneMore, HasSpare, HasSlotReady, KeepsNumbers, named, number_at};
-    ghost use Rattle.balloc_c.specs.Slots.{IsVacant, HasAged, block_at, blocks_of, next_at, set_block};
+    ghost use Rattle.balloc_c.specs.Slots.{IsVacant, HasAged, after_at, block_at, blocks_of, next_at, set_block};
     ghost use Rattle.balloc_c.specs.Packed.{HasOneMoreAtMost, IsLinked, IsPacked};
 
-    /// No block, and no slot, and room for the memory of so many of a class.
+    /// No block, and no slot, and room for so many of a class that are home, and for the memory of so many.
     pub fn new(alloc: Global, depth: u8) -> Table
         ensures bare { result.slots.items ≡ [] }
         ensures packed { IsPacked result }
-        ensures rooms { (class : ℕ) → class < CLASSES → room_of result class ≡ depth }
+        ensures rooms { (class : ℕ) → class < CLASSES → (room_of result.resting class ≡ depth) × (room_of result.laid class ≡ depth) }
     {
         Table {
             slots: Vec::new(alloc),
             spare: NONE,
-            laid: Laid::new(NONE, depth),
+            resting: Laid::new(NOTHING, depth),
+            laid: Laid::new(NOTHING, depth),
         }
     }
 
@@ -163,6 +216,7 @@ impl Table {
             block: None,
             age: 0,
             next: self.spare,
+            after: 0,
         };
         match self.slots.push(slot) {
             Ok(()) => {
@@ -209,6 +263,7 @@ impl Table {
         match &self.slots[index].block {
             Some(Kept::Home(_)) => true,
             Some(Kept::Out(_)) => true,
+            Some(Kept::Resting(_)) => false,
             Some(Kept::Laid(_)) => false,
             None => false,
         }
@@ -356,16 +411,115 @@ impl Table {
         self.spare = index as u32;
     }
 
+    /// The class of the block in a slot, whose words are home, where the pass has room for it.
+    #[inline(always)]
+    pub fn rest_room(&self, index: usize) -> Option<u8>
+        requires within { index < length self.now.slots.items }
+        requires home { (block : Block) × (block_at self.now.slots.items index ≡ Some (kept.Home block)) }
+        ensures room { IfSome result (λ class. (class < CLASSES) × (0 < room_of self.now.resting class)
+            × ((block : Block) × (block_at self.now.slots.items index ≡ Some (kept.Home block)) × (block.need ≡ Small class))) }
+        ensures none { result ≡ None → ¬ HasRoomFor self.now (block_at self.now.slots.items index) }
+    {
+        let Need::Small(class) = self.home(index).need() else {
+            return None;
+        };
+        let left = self.resting.room(class);
+        if left == 0 {
+            return None;
+        }
+        Some(class)
+    }
+
+    /// The pass keeps a block whose words are home: no number names it any more, and it is given next of its class.
+    #[inline(always)]
+    pub fn rest(&mut self, index: usize, class: u8, number: u64)
+        requires packed { IsPacked self.old }
+        requires is { (index ≡ number % 2 ^ 32) × (number_at self.old index ≡ number) }
+        requires within { index < length self.old.slots.items }
+        requires class { (class < CLASSES) × (0 < room_of self.old.resting class) }
+        requires home { (block : Block) × (block_at self.old.slots.items index ≡ Some (kept.Home block)) × (block.need ≡ Small class) }
+        ensures packed { IsPacked self.new }
+        ensures rests { (block : Block) × (block_at self.old.slots.items index ≡ Some (kept.Home block))
+            × HasTurned self.old.slots.items index (kept.Resting block) self.new.slots.items
+            × IsReadyIn self.new class (kept.Resting block) }
+        ensures chain { after_at self.new.slots.items index ≡ first_of self.old.resting class }
+        ensures fewer { room_of self.new.resting class + 1 ≡ room_of self.old.resting class }
+        ensures less { named self.old number ≢ None → NamesOneLess self.old number self.new }
+    {
+        let after = self.resting.first(class);
+        self.slots[index].rest(after);
+        self.resting.lay(class, number.wrapping_add(0x1_0000_0000));
+    }
+
+    /// The class of blocks for so many words, where one rests, behind the slot whose block is given next.
+    #[inline(always)]
+    pub fn at_rest(&self, words: u32) -> Option<(usize, u8)>
+        ensures ready { IfSome result (λ next. (next.1 < CLASSES) × (words ≤ LARGE_MOST) × (need_of words ≡ Small next.1) × (next.0 ≡ slot_of self.now.resting next.1)
+            × ((block : Block) × IsReadyIn self.now next.1 (kept.Resting block))) }
+        ensures none { result ≡ None → (block : Block) → ¬ IsReady self.now (need_of words) (kept.Resting block) }
+    {
+        let Need::Small(class) = class_of(words) else {
+            return None;
+        };
+        let first = self.resting.first(class);
+        let index = (first % 0x1_0000_0000) as usize;
+        if self.rests(index, first, class) {
+            Some((index, class))
+        } else {
+            None
+        }
+    }
+
+    /// Whether a block of a class rests, where this slot's is given next.
+    #[inline(always)]
+    fn rests(&self, index: usize, first: u64, class: u8) -> bool
+        requires at { index ≡ first % 2 ^ 32 }
+        requires first { first ≡ first_of self.now.resting class }
+        ensures yes { result ≡ true → (block : Block) × IsReadyIn self.now class (kept.Resting block) }
+        ensures no { result ≡ false → (block : Block) → ¬ IsReadyIn self.now class (kept.Resting block) }
+    {
+        if !self.is_aged(index, first) {
+            return false;
+        }
+        let Some(kept) = self.block(index) else {
+            return false;
+        };
+        let Kept::Resting(block) = kept else {
+            return false;
+        };
+        is_small(block.need(), class)
+    }
+
+    /// Gives a block again that rests, the next of its class. Answers its number.
+    #[inline(always)]
+    pub fn wake(&mut self, index: usize, class: u8) -> u64
+        requires packed { IsPacked self.old }
+        requires first { index ≡ slot_of self.old.resting class }
+        requires class { class < CLASSES }
+        requires ready { (block : Block) × IsReadyIn self.old class (kept.Resting block) }
+        ensures packed { IsPacked self.new }
+        ensures woken { (block : Block) × IsReadyIn self.old class (kept.Resting block)
+            × HasTurned self.old.slots.items (slot_of self.old.resting class) (kept.Home block) self.new.slots.items
+            × IsGivenAgain self.old class result (kept.Home block) self.new }
+    {
+        let number = self.resting.first(class);
+        self.slots[index].wake();
+        let after = self.after(index);
+        self.resting.lift(class, after);
+        number
+    }
+
     /// The class of the block in a slot, whose words are out, where the pass has room for them.
     #[inline(always)]
     pub fn room(&self, index: usize) -> Option<u8>
         requires within { index < length self.now.slots.items }
-        ensures room { IfSome result (λ class. (class < CLASSES) × (0 < room_of self.now class)
+        requires out { (lent : Out) × (block_at self.now.slots.items index ≡ Some (kept.Out lent)) }
+        ensures room { IfSome result (λ class. (class < CLASSES) × (0 < room_of self.now.laid class)
             × ((lent : Out) × (block_at self.now.slots.items index ≡ Some (kept.Out lent)) × (lent.need ≡ Small class))) }
         ensures none { result ≡ None → ¬ HasRoomFor self.now (block_at self.now.slots.items index) }
     {
         let Some(lent) = self.out(index) else {
-            return None;
+            unreachable!();
         };
         let Need::Small(class) = lent.need else {
             return None;
@@ -379,38 +533,39 @@ impl Table {
 
     /// The pass keeps the words of a block that were out: no number names it any more, and it is given next of its class.
     #[inline(always)]
-    pub fn lay(&mut self, index: usize, class: u8, words: PlainWords)
+    pub fn lay(&mut self, index: usize, class: u8, number: u64, words: PlainWords)
         requires packed { IsPacked self.old }
+        requires is { (index ≡ number % 2 ^ 32) × (number_at self.old index ≡ number) }
         requires within { index < length self.old.slots.items }
-        requires small { index < 2 ^ 32 }
-        requires class { (class < CLASSES) × (0 < room_of self.old class) }
+        requires class { (class < CLASSES) × (0 < room_of self.old.laid class) }
         requires out { (lent : Out) × (block_at self.old.slots.items index ≡ Some (kept.Out lent)) × (lent.need ≡ Small class) }
         ensures packed { IsPacked self.new }
         ensures laid { (lent : Out) × (block_at self.old.slots.items index ≡ Some (kept.Out lent))
             × HasTurned self.old.slots.items index (kept.Laid (memory_of lent words)) self.new.slots.items
-            × IsReadyIn self.new class (memory_of lent words) }
-        ensures chain { next_at self.new.slots.items index ≡ first_of self.old class }
-        ensures fewer { room_of self.new class + 1 ≡ room_of self.old class }
-        ensures less { (number : ℕ) → index ≡ number % 2 ^ 32 → named self.old number ≢ None → NamesOneLess self.old number self.new }
+            × IsReadyIn self.new class (kept.Laid (memory_of lent words)) }
+        ensures chain { after_at self.new.slots.items index ≡ first_of self.old.laid class }
+        ensures fewer { room_of self.new.laid class + 1 ≡ room_of self.old.laid class }
+        ensures less { named self.old number ≢ None → NamesOneLess self.old number self.new }
     {
-        let next = self.laid.first(class);
-        self.slots[index].lay(next, words);
-        self.laid.lay(class, index as u32);
+        let after = self.laid.first(class);
+        self.slots[index].lay(after, words);
+        self.laid.lay(class, number.wrapping_add(0x1_0000_0000));
     }
 
     /// The class of blocks for so many words, where the pass keeps memory of it, behind the slot whose memory is given next.
     #[inline(always)]
     pub fn ready(&self, words: u32) -> Option<(usize, u8)>
-        ensures ready { IfSome result (λ next. (next.1 < CLASSES) × (words ≤ LARGE_MOST) × (need_of words ≡ Small next.1) × (next.0 ≡ first_of self.now next.1)
-            × ((memory : Memory) × IsReadyIn self.now next.1 memory)) }
-        ensures none { result ≡ None → (memory : Memory) → ¬ IsReady self.now (need_of words) memory }
+        ensures ready { IfSome result (λ next. (next.1 < CLASSES) × (words ≤ LARGE_MOST) × (need_of words ≡ Small next.1) × (next.0 ≡ slot_of self.now.laid next.1)
+            × ((memory : Memory) × IsReadyIn self.now next.1 (kept.Laid memory))) }
+        ensures none { result ≡ None → (memory : Memory) → ¬ IsReady self.now (need_of words) (kept.Laid memory) }
     {
         let Need::Small(class) = class_of(words) else {
             return None;
         };
-        let first = self.laid.first(class) as usize;
-        if self.is_ready(first, class) {
-            Some((first, class))
+        let first = self.laid.first(class);
+        let index = (first % 0x1_0000_0000) as usize;
+        if self.is_ready(index, first, class) {
+            Some((index, class))
         } else {
             None
         }
@@ -418,53 +573,60 @@ impl Table {
 
     /// Whether the pass keeps memory of a class, where this slot's is given next.
     #[inline(always)]
-    fn is_ready(&self, first: usize, class: u8) -> bool
-        requires { first ≡ first_of self.now class }
-        ensures yes { result ≡ true → (memory : Memory) × IsReadyIn self.now class memory }
-        ensures no { result ≡ false → (memory : Memory) → ¬ IsReadyIn self.now class memory }
+    fn is_ready(&self, index: usize, first: u64, class: u8) -> bool
+        requires at { index ≡ first % 2 ^ 32 }
+        requires first { first ≡ first_of self.now.laid class }
+        ensures yes { result ≡ true → (memory : Memory) × IsReadyIn self.now class (kept.Laid memory) }
+        ensures no { result ≡ false → (memory : Memory) → ¬ IsReadyIn self.now class (kept.Laid memory) }
     {
-        if first >= self.slots.len() {
+        if !self.is_aged(index, first) {
             return false;
         }
-        let Some(kept) = self.block(first) else {
+        let Some(kept) = self.block(index) else {
             return false;
         };
         let Kept::Laid(memory) = kept else {
             return false;
         };
-        match memory.need() {
-            Need::Small(own) => own == class,
-            _ => false,
-        }
+        is_small(memory.need(), class)
     }
 
-    /// Gives memory again that the pass keeps, the next of its class, under a number.
+    /// Gives memory again that the pass keeps, the next of its class. Answers its block's number with it.
     #[inline(always)]
     pub fn lift(&mut self, index: usize, class: u8) -> (u64, Memory)
         requires packed { IsPacked self.old }
-        requires first { index ≡ first_of self.old class }
+        requires first { index ≡ slot_of self.old.laid class }
         requires class { class < CLASSES }
-        requires ready { (memory : Memory) × IsReadyIn self.old class memory }
+        requires ready { (memory : Memory) × IsReadyIn self.old class (kept.Laid memory) }
         ensures packed { IsPacked self.new }
-        ensures ready { IsReadyIn self.old class result.1 }
+        ensures ready { IsReadyIn self.old class (kept.Laid result.1) }
         ensures out { (lent : Out) × (block_of (kept.Out lent) ≡ result.1.block)
-            × HasTurned self.old.slots.items (first_of self.old class) (kept.Out lent) self.new.slots.items
-            × NamesOneMore self.old result.0 (kept.Out lent) self.new }
-        ensures next { first_of self.new class ≡ next_at self.old.slots.items (first_of self.old class) }
-        ensures further { room_of self.new class ≡ (room_of self.old class + 1) % 2 ^ 8 }
+            × HasTurned self.old.slots.items (slot_of self.old.laid class) (kept.Out lent) self.new.slots.items
+            × IsGivenAgain self.old class result.0 (kept.Out lent) self.new }
     {
+        let number = self.laid.first(class);
         let memory = self.slots[index].lift();
-        let next = self.next(index);
-        self.laid.lift(class, next);
-        (self.number(index), memory)
+        let after = self.after(index);
+        self.laid.lift(class, after);
+        (number, memory)
     }
 
-    /// The slot that a slot names.
+    /// The number that a slot has of the block that is given after its own.
     #[inline(always)]
-    fn next(&self, index: usize) -> u32
+    fn after(&self, index: usize) -> u64
         requires { index < length self.now.slots.items }
-        ensures { result ≡ next_at self.now.slots.items index }
+        ensures { result ≡ after_at self.now.slots.items index }
     {
-        self.slots[index].next
+        self.slots[index].after
+    }
+
+    /// Whether a number is that of its slot.
+    #[inline(always)]
+    fn is_aged(&self, index: usize, number: u64) -> bool
+        requires { index ≡ number % 2 ^ 32 }
+        ensures yes { result ≡ true → (index < length self.now.slots.items) × (number_at self.now index ≡ number) }
+        ensures no { result ≡ false → (index < length self.now.slots.items → number_at self.now index ≢ number) }
+    {
+        index < self.slots.len() && (number / 0x1_0000_0000) as u32 == self.slots[index].age
     }
 }

@@ -89,6 +89,12 @@ uint32_t balloc_malloc_open(uint32_t frames, uint32_t heaps, uint32_t depth, bal
  * BALLOC_MALLOC_NO_MEMORY */
 uint32_t balloc_malloc_take(balloc_seat *seat, size_t bytes, void **memory);
 
+/* Tells memory as balloc_malloc_take does, and answers its size, where it needs nothing new for it: at most 2,048 bytes, of
+ * 16,384 that the seat has cut into pieces of such a size already. What balloc_malloc_take answered as it told the first piece
+ * of these is the size of each. Else it tells NULL, and nothing has changed: then ask balloc_malloc_take, which cuts others.
+ * A size, BALLOC_MALLOC_DONE */
+uint32_t balloc_malloc_take_ready(balloc_seat *seat, size_t bytes, void **memory);
+
 /* Gives memory back that this seat told, and that was not given back since: by its first word and its size. */
 void balloc_malloc_give(balloc_seat *seat, size_t first, uint32_t size);
 
@@ -106,7 +112,7 @@ size_t balloc_malloc_empty(balloc_seat *seat, balloc_bundle *bundle);
  * A size, BALLOC_MALLOC_REFUSED, BALLOC_MALLOC_TOO_LARGE, BALLOC_MALLOC_SPENT, BALLOC_MALLOC_BUSY, BALLOC_MALLOC_NO_MEMORY */
 uint32_t balloc_malloc_resize(balloc_seat *seat, size_t first, uint32_t size, size_t bytes, void **moved);
 
-/* Tells how many of the seat's takes found a piece ready, how many blocks are out with it, those that it keeps too, and how
+/* Tells how many of the seat's takes found a piece ready, modulo 2^64, how many blocks are out with it, those that it keeps too, and how
  * many exchanges it has lost to other seats.
  * BALLOC_MALLOC_DONE, BALLOC_MALLOC_EMPTY */
 uint32_t balloc_malloc_counts(balloc_seat *seat, uint64_t *hits, uint64_t *out, uint64_t *lost);

@@ -37,13 +37,22 @@ paired-few half low = omega arith
 
 pub piece_words-few : (words : ℕ) → piece_words words < CAUSES
 unfolding piece_words
-piece_words-few words = elim (cases_lt 64 words) [
-  | inl near ↦ elim (cases_lt 256 words) [
-    | inl far ↦ elim (cases_lt 1022 words) [
-      | inl alone ↦ rw (lt-leb words 64 near, lt-leb words 256 far, lt-leb words 1022 alone) (usable-few (page_words words))
-      | inr paired ↦ rw (lt-leb words 64 near, lt-leb words 256 far, le-leb words 1022 paired) (paired-few (steps_of 2 words) (omega (arith, paired)))
+piece_words-few words = elim (cases_lt 16 words) [
+  | inl close ↦ elim (cases_lt 32 words) [
+    | inl near ↦ elim (cases_lt 64 words) [
+      | inl middle ↦ elim (cases_lt 256 words) [
+        | inl far ↦ elim (cases_lt 1022 words) [
+          | inl alone ↦
+              rw (lt-leb words 16 close, lt-leb words 32 near, lt-leb words 64 middle, lt-leb words 256 far, lt-leb words 1022 alone) (usable-few (page_words words))
+          | inr paired ↦
+              rw (lt-leb words 16 close, lt-leb words 32 near, lt-leb words 64 middle, lt-leb words 256 far, le-leb words 1022 paired)
+              (paired-few (steps_of 2 words) (omega (arith, paired)))
+        ]
+        | inr some ↦ rw (lt-leb words 16 close, lt-leb words 32 near, lt-leb words 64 middle, le-leb words 256 some) (omega (arith, some))
+      ]
+      | inr some ↦ rw (lt-leb words 16 close, lt-leb words 32 near, le-leb words 64 some) (omega (arith, some))
     ]
-    | inr some ↦ rw (lt-leb words 64 near, le-leb words 256 some) (omega (arith, some))
+    | inr some ↦ rw (lt-leb words 16 close, le-leb words 32 some) (omega (arith, some))
   ]
-  | inr few ↦ rw (le-leb words 64 few) (omega (arith, few))
+  | inr few ↦ rw (le-leb words 16 few) (omega (arith, few))
 ]

@@ -1,6 +1,6 @@
 -- How memory is taken.
-use Rattle.std.proofs.Common.{◌≡◌, ◌≢◌, ℕ, ◌+◌, ◌-◌, ◌*◌, ◌%◌, ◌^◌, ◌<◌, ◌≤◌, Option, Some, None, Result, Ok, Err, sym, ap, refl, ◌∙◌, subst, arith}
-use Rattle.std.specs.Prelude.{IfOk, min}
+use Rattle.std.proofs.Common.{◌≡◌, ◌≢◌, ℕ, ◌+◌, ◌*◌, ◌%◌, ◌^◌, ◌<◌, ◌≤◌, Option, Some, None, Result, Ok, Err, sym, ap, refl, ◌∙◌, subst, arith}
+use Rattle.std.specs.Prelude.{IfOk}
 use Rattle.std.specs.Arc.{arc_value}
 use Rattle.std.specs.declared.alloc.AllocError.{AllocError}
 use denote.RawPtr.{Ptr, null_ptr}
@@ -10,16 +10,16 @@ use Rattle.live_heap.specs.declared.answers.AllocAnswer.{AllocAnswer}
 use Rattle.live_heap.specs.declared.answers.AllocAnswer.TheVariants.{Given, Refused, TooLarge, Spent, Busy}
 use Rattle.plain_words.specs.declared.plain.PlainWords.{PlainWords}
 use Rattle.memory_cache.specs.declared.piece.Piece.{Piece}
-use Rattle.memory_cache.specs.Paged.{CameOf, HasNewPage, IsOut, LiesElsewhere}
+use Rattle.memory_cache.specs.Paged.{CameOf, HasNewPage, IsIn, IsOut, LiesElsewhere}
 use Rattle.memory_cache.specs.Pages.{IsPiece}
 use Rattle.memory_cache.specs.Sizes.{page_words, piece_words}
-use Rattle.balloc_malloc.specs.declared.codes.TheConstants.{CAUSES}
-use Rattle.balloc_malloc.specs.declared.tenant.TheConstants.{TRIES}
+use Rattle.balloc_malloc.specs.declared.codes.TheConstants.{CAUSES, DONE}
+use Rattle.balloc_malloc.specs.declared.tenant.TheConstants.{READY_MOST, TRIES}
 use Rattle.balloc_malloc.specs.declared.tenant.Tenant.{Tenant}
 use Rattle.balloc_malloc.specs.Codes.{GivesNone, code_of}
 use Rattle.balloc_malloc.specs.Out.{IsAt, IsLent}
 use Rattle.balloc_malloc.specs.Sizes.{words_for}
-use Rattle.balloc_malloc.specs.Takes.{HasReady, IsGiven, IsRefused, Lacks, Takes}
+use Rattle.balloc_malloc.specs.Takes.{HasReady, IsGiven, IsRefused, Lacks, Serves, Takes}
 use Rattle.balloc_malloc.specs.Tenants.{heap_of}
 use Rattle.balloc_malloc.proofs.PieceSizes.{piece_words-few}
 
@@ -27,6 +27,20 @@ pub goes_out :
     (before after : Tenant) (bytes code : ℕ) (told : Option PlainWords) (p : Ptr) (words : PlainWords) → told ≡ Some words
     → IsGiven before bytes code words p after → Takes before bytes code told p after
 goes_out before after bytes code told p words is given = subst (λ (o : Option PlainWords). Takes before bytes code o p after) (sym is) given
+
+pub serves_out :
+    (h : HeapFields) (before after : Tenant) (bytes code : ℕ) (told : Option PlainWords) (p : Ptr) (x : Piece) → told ≡ Some x.words → code ≡ x.size
+    → HasReady before bytes → IsGiven before bytes code x.words p after → IsPiece h x → IsIn before.cache x.first x.size → Serves before bytes code told p after
+serves_out h before after bytes code told p x is sized ready given piece page =
+    let here : IsIn before.cache x.words.first code =
+    subst (λ (f : ℕ). IsIn before.cache f code) (sym piece.begins) (subst (λ (n : ℕ). IsIn before.cache x.first n) (sym sized) page) in
+    subst (λ (o : Option PlainWords). Serves before bytes code o p after) (sym is) (ready, given, here)
+
+pub serves_none :
+    (before after : Tenant) (bytes code : ℕ) (told : Option PlainWords) (p : Ptr) → told ≡ None → code ≡ DONE → p ≡ null_ptr → after ≡ before
+    → (bytes ≤ READY_MOST → ¬ HasReady before bytes) → Serves before bytes code told p after
+serves_none before after bytes code told p is done null same none =
+    subst (λ (o : Option PlainWords). Serves before bytes code o p after) (sym is) (done, null, same, none)
 
 pub stays :
     (before after : Tenant) (bytes code : ℕ) (told : Option PlainWords) (p : Ptr) → told ≡ None → p ≡ null_ptr → Lacks before bytes code after
@@ -51,7 +65,7 @@ pub is_given :
     → IsAt x.words p → IsPiece h x → x.size ≡ piece_words (words_for bytes) → words_for bytes ≤ x.size → IsOut after.cache x.first x.size → x.first % 2 ≡ 1
     → ((other : ℕ) → ¬ IsOut before.cache x.first other) → ((first other : ℕ) → IsOut before.cache first other → IsOut after.cache first other)
     → ((first other : ℕ) → IsOut after.cache first other → first ≢ x.first → IsOut before.cache first other)
-    → (HasReady before bytes → (after.cache.cache ≡ before.cache.cache) × (after.cache.hits ≡ min (before.cache.hits + 1) (2 ^ 64 - 1)))
+    → (HasReady before bytes → (after.cache.cache ≡ before.cache.cache) × (after.cache.hits ≡ (before.cache.hits + 1) % 2 ^ 64))
     → ((¬ HasReady before bytes) → HasNewPage h before.cache (words_for bytes) TRIES x.first after.cache × (after.cache.hits ≡ before.cache.hits))
     → IsGiven before bytes code x.words p after
 is_given h before after bytes code x p same heap is there piece sized enough out odd fresh keeps only served new = record {

@@ -20,6 +20,10 @@ LendsErasedBox s r = Lends held.the_row tenant.the_row s r (with_tenant s.now)
 abbrev pub holding : ThreadSeat → Tenant → ThreadSeat
 holding h w = record { live = true; held = with_tenant h.held w; rest = h.rest; is_live = refl }
 
+-- the same of a seat that has one
+abbrev pub LendsKnown : MutBor ThreadSeat → MutBor Tenant → Fml
+LendsKnown s r = Lends seat.the_row tenant.the_row s r (holding s.now)
+
 -- the same of a seat; one that lends nothing is as it was
 abbrev pub LendsTenant : MutBor ThreadSeat → Option (MutBor Tenant) → Fml
 LendsTenant s r = LendsIf seat.the_row tenant.the_row s r (holding s.now) s.now

@@ -1,15 +1,15 @@
 -- How memory is taken.
-use Rattle.std.specs.Prelude.{ℕ, ◌≡◌, ◌≢◌, ◌<◌, ◌≤◌, ◌+◌, ◌-◌, ◌*◌, ◌%◌, ◌^◌, ◌⊎◌, min, Option, Some, None, Result, IfOk}
+use Rattle.std.specs.Prelude.{ℕ, ◌≡◌, ◌≢◌, ◌<◌, ◌≤◌, ◌+◌, ◌*◌, ◌%◌, ◌^◌, ◌⊎◌, Option, Some, None, Result, IfOk}
 use Rattle.std.specs.declared.alloc.AllocError.{AllocError}
 use denote.RawPtr.{Ptr, null_ptr}
 use Rattle.heap_geometry.specs.declared.limits.TheConstants.{LARGE_MOST}
 use Rattle.plain_words.specs.declared.plain.PlainWords.{PlainWords}
 use Rattle.live_heap.specs.declared.answers.AllocAnswer.{AllocAnswer}
 use Rattle.memory_cache.specs.declared.piece.Piece.{Piece}
-use Rattle.memory_cache.specs.Paged.{CameOf, HasNewPage, HasPieceReady, IsOut}
+use Rattle.memory_cache.specs.Paged.{CameOf, HasNewPage, HasPieceReady, IsIn, IsOut}
 use Rattle.memory_cache.specs.Sizes.{page_words, piece_words}
-use Rattle.balloc_malloc.specs.declared.codes.TheConstants.{CAUSES, EMPTY, TOO_LARGE}
-use Rattle.balloc_malloc.specs.declared.tenant.TheConstants.{TRIES}
+use Rattle.balloc_malloc.specs.declared.codes.TheConstants.{CAUSES, DONE, EMPTY, TOO_LARGE}
+use Rattle.balloc_malloc.specs.declared.tenant.TheConstants.{READY_MOST, TRIES}
 use Rattle.balloc_malloc.specs.declared.tenant.Tenant.{Tenant}
 use Rattle.balloc_malloc.specs.Codes.{GivesNone, code_of}
 use Rattle.balloc_malloc.specs.Out.{IsAt, IsLent}
@@ -31,7 +31,7 @@ pub record IsGiven (before : Tenant) (bytes size : ℕ) (words : PlainWords) (p 
   pub sized : size ≡ piece_words (words_for bytes)
   pub enough : bytes ≤ bytes_of size
   pub heap : after.heap ≡ before.heap
-  pub served : HasReady before bytes → (after.cache.cache ≡ before.cache.cache) × (after.cache.hits ≡ min (before.cache.hits + 1) (2 ^ 64 - 1))
+  pub served : HasReady before bytes → (after.cache.cache ≡ before.cache.cache) × (after.cache.hits ≡ (before.cache.hits + 1) % 2 ^ 64)
   pub new : (¬ HasReady before bytes)
       → HasNewPage (heap_of before) before.cache (words_for bytes) TRIES words.first after.cache × (after.cache.hits ≡ before.cache.hits)
 
@@ -68,3 +68,14 @@ Takes before bytes code None p after = (p ≡ null_ptr) × Lacks before bytes co
 abbrev pub TakesBy : Option Tenant → ℕ → ℕ → Option PlainWords → Ptr → Option Tenant → Type 0
 TakesBy None bytes code words p after = (code ≡ EMPTY) × (words ≡ None) × (p ≡ null_ptr) × (after ≡ None)
 TakesBy (Some before) bytes code words p after = (next : Tenant) × (after ≡ Some next) × Takes before bytes code words p next
+
+-- what comes of a take where a page is ready: words of a page that was there before go out, as by any take; or none, and nothing has happened, since the bytes are too many for that, or no page has a piece ready
+abbrev pub Serves : Tenant → ℕ → ℕ → Option PlainWords → Ptr → Tenant → Type 0
+Serves before bytes code (Some words) p after = HasReady before bytes × IsGiven before bytes code words p after × IsIn before.cache words.first code
+Serves before bytes code None p after =
+    (code ≡ DONE) × (p ≡ null_ptr) × (after ≡ before) × (bytes ≤ READY_MOST → ¬ HasReady before bytes)
+
+-- the same of a seat, which may be empty
+abbrev pub ServesBy : Option Tenant → ℕ → ℕ → Option PlainWords → Ptr → Option Tenant → Type 0
+ServesBy None bytes code words p after = (code ≡ DONE) × (words ≡ None) × (p ≡ null_ptr) × (after ≡ None)
+ServesBy (Some before) bytes code words p after = (next : Tenant) × (after ≡ Some next) × Serves before bytes code words p next

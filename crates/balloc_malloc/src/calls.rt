@@ -5,13 +5,24 @@ ghost use Rattle.balloc_malloc.specs.Bundles.{AreOfSeat, EmptiesBy, Puts, bundle
 ghost use Rattle.balloc_malloc.specs.Gives.{GivesBy};
 ghost use Rattle.balloc_malloc.specs.Out.{HasOut};
 ghost use Rattle.balloc_malloc.specs.Resizes.{AreNumbered, ResizesBy};
-ghost use Rattle.balloc_malloc.specs.Takes.{TakesBy};
+ghost use Rattle.balloc_malloc.specs.Takes.{ServesBy, TakesBy};
 
 use crate::bundle::Bundle;
-use crate::codes::EMPTY;
+use crate::codes::{DONE, EMPTY};
 use crate::handed::Handed;
 use crate::seat::ThreadSeat;
 use plain_words::PlainWords;
+
+/// Memory of at least so many bytes, of a page that is ready.
+#[inline(always)]
+pub fn take_ready(seat: &mut ThreadSeat, bytes: usize) -> Handed
+    ensures { ServesBy seat.old.held.tenant bytes result.code result.words result.memory seat.new.held.tenant }
+{
+    match seat.tenant() {
+        Some(tenant) => tenant.take_ready(bytes),
+        None => Handed::none(DONE),
+    }
+}
 
 /// Memory of at least so many bytes.
 #[inline(always)]
@@ -30,9 +41,7 @@ pub fn give(seat: &mut ThreadSeat, words: PlainWords, first: usize, size: u32)
     requires { HasOut seat.old.held.tenant words first size }
     ensures { GivesBy seat.old.held.tenant first seat.new.held.tenant }
 {
-    if let Some(tenant) = seat.tenant() {
-        tenant.give(words, first, size);
-    }
+    seat.known().give(words, first, size);
 }
 
 /// Memory of at least so many bytes, with what this one has, as far as both go.

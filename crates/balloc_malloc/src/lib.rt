@@ -30,10 +30,10 @@ ghost use Rattle.balloc_malloc.specs.Handing.{handed, words_own};
 ghost use Rattle.balloc_malloc.specs.Opened.{Opens, numbers};
 ghost use Rattle.balloc_malloc.specs.Out.{HasOut};
 ghost use Rattle.balloc_malloc.specs.Resizes.{AreNumbered, ResizesBy};
-ghost use Rattle.balloc_malloc.specs.Takes.{TakesBy};
+ghost use Rattle.balloc_malloc.specs.Takes.{ServesBy, TakesBy};
 
 use bundle::Bundle;
-use calls::{empty, give, put, resize, take};
+use calls::{empty, give, put, resize, take, take_ready};
 use codes::{DONE, EMPTY};
 use handed::Handed;
 use heap_geometry::geometry::Geometry;
@@ -76,6 +76,21 @@ pub extern "C" fn balloc_malloc_open(
         }
         Err(code) => code,
     }
+}
+
+/// Memory of at least so many bytes, at most 2,048, of a page that is ready, to which the pointer leads, and how many words it
+/// has, as the result. Where no page is nothing has changed, and it is 0.
+#[unsafe(no_mangle)]
+pub extern "C" fn balloc_malloc_take_ready(
+    seat: &mut ThreadSeat,
+    bytes: usize,
+    memory: &mut *mut u64,
+) -> u32
+    ensures* memory { sem 𝓛 (handed (λ words. ServesBy seat.old.held.tenant bytes result words memory.new seat.new.held.tenant)) }
+{
+    let Handed { memory: at, code } = take_ready(seat, bytes);
+    *memory = at;
+    code
 }
 
 /// Memory of at least so many bytes, to which the pointer leads, and how many words it has, as the result.

@@ -19,7 +19,7 @@ pub struct ThreadSeat {
 
 impl ThreadSeat {
     ghost use Rattle.std.specs.Borrow.{sem};
-    ghost use Rattle.balloc_malloc.specs.Lent.{LendsTenant};
+    ghost use Rattle.balloc_malloc.specs.Lent.{LendsKnown, LendsTenant};
 
     /// Whether it has a tenant.
     pub fn live(&self) -> bool
@@ -38,6 +38,15 @@ impl ThreadSeat {
         } else {
             None
         }
+    }
+
+    /// Its tenant, where that lies, which it has.
+    pub fn known(&mut self) -> &mut Tenant
+        requires { (tenant : Tenant) × (self.old.held.tenant ≡ Some tenant) }
+        ensures* writes_back { sem 𝓛 (LendsKnown self.entry result) }
+        ensures value { self.old.held.tenant ≡ Some result.now }
+    {
+        self.held.tenant()
     }
 
     /// Takes the tenant out, where there is one.

@@ -6,7 +6,7 @@ ghost use Rattle.memory_cache.specs.Pages.{IsPiece};
 ghost use Rattle.memory_cache.specs.Paged.{IsOut, IsPaged};
 
 use crate::bundle::Bundle;
-use crate::codes::{TOO_LARGE, piece_or_cause};
+use crate::codes::{DONE, TOO_LARGE, piece_or_cause};
 use crate::handed::Handed;
 use crate::handing::{bytes_in, copied, hand_out, send_out, words_for};
 use live_heap::heap::Heap;
@@ -18,6 +18,9 @@ use std::sync::Arc;
 
 /// How many lost exchanges interrupt a call.
 const TRIES: u32 = 1000;
+
+/// So many bytes, at most, are taken of a page that is ready without a look at others.
+const READY_MOST: usize = 2048;
 
 /// A pass with pages of memory, and its share in the heap.
 #[derive(Drop)]
@@ -36,7 +39,7 @@ impl Tenant {
     ghost use Rattle.std.specs.Prelude.{◌≡◌, ◌≤◌, ◌*◌};
     ghost use Rattle.heap_geometry.specs.declared.limits.TheConstants.{LARGE_MOST};
     ghost use Rattle.balloc_malloc.specs.Sizes.{words_for};
-    ghost use Rattle.balloc_malloc.specs.Takes.{Takes};
+    ghost use Rattle.balloc_malloc.specs.Takes.{Serves, Takes};
     ghost use Rattle.balloc_malloc.specs.Tenants.{IsTended, heap_of};
 
     /// A tenant with this cache in front of the heap.
@@ -53,6 +56,34 @@ impl Tenant {
         ensures { IsTended self.now }
     {}
 
+    /// Memory of at least so many bytes, at most 2,048, of a page that is ready. Where none is nothing has changed.
+    #[inline(always)]
+    pub fn take_ready(&mut self, bytes: usize) -> Handed
+        ensures { Serves self.old bytes result.code result.words result.memory self.new }
+    {
+        self.tended();
+        if bytes > READY_MOST {
+            return Handed::none(DONE);
+        }
+        match self.cache.take_spare(&self.heap, ((bytes + 7) / 8) as u32) {
+            Some(piece) => hand_out(&self.heap, piece),
+            None => self.take_last(bytes),
+        }
+    }
+
+    /// The same where a page has its last piece, or none is ready. It stands apart, so that the way before it calls nothing.
+    #[inline(never)]
+    fn take_last(&mut self, bytes: usize) -> Handed
+        requires { bytes ≤ READY_MOST }
+        ensures { Serves self.old bytes result.code result.words result.memory self.new }
+    {
+        self.tended();
+        match self.cache.take_ready(&self.heap, ((bytes + 7) / 8) as u32) {
+            Some(piece) => hand_out(&self.heap, piece),
+            None => Handed::none(DONE),
+        }
+    }
+
     /// Memory of at least so many bytes.
     #[inline(always)]
     pub fn take(&mut self, bytes: usize) -> Handed
@@ -68,7 +99,7 @@ impl Tenant {
         }
     }
 
-    /// The same: where a page has its last piece, or a page is cut. It stands apart, so that the way before it calls nothing.
+    /// The same where no page is ready. It stands apart, so that the way before it calls nothing.
     #[inline(never)]
     fn take_anew(&mut self, _bytes: usize, words: u32) -> Handed
         requires { (words ≡ words_for _bytes) × (_bytes ≤ 8 * LARGE_MOST) × (words ≤ LARGE_MOST) }

@@ -69,7 +69,7 @@ impl Desk {
         ensures none { result ≡ None → self.new ≡ self.old }
     {
         match &mut self.cache {
-            Some(cache) => cache.take_ready(heap, words),
+            Some(cache) => cache.take_spare(heap, words),
             None => None,
         }
     }

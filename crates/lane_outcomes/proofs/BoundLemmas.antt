@@ -19,7 +19,8 @@ use Rattle.lane_outcomes.specs.Rows.{Setting}
 use Rattle.lane_outcomes.specs.Cached.{CachedFits, CachedLanesFit, CachedPosition, CachedWalks, cached_after, cached_start, hit_of, magazines_by, served_with}
 use Rattle.lane_outcomes.specs.Magazines.{given_from, is_kept, kept_with, magazine_of, magazines_freed, magazines_given, others_in, served_by}
 use Rattle.lane_outcomes.proofs.LanesLemmas.{walk-kept}
-use Rattle.lane_outcomes.specs.Deeds.{Deed, deed_of, given_by, register_of}
+use Rattle.trace_text.specs.Operations.{register_of}
+use Rattle.lane_outcomes.specs.Deeds.{Deed, deed_of, given_by}
 use Rattle.lane_outcomes.specs.Deeds as deed
 
 -- no magazine has more blocks than the depth

@@ -22,7 +22,8 @@ use Rattle.lane_outcomes.specs.Magazines.{freeing, is_kept, kept_from, magazines
 use Rattle.lane_outcomes.proofs.KeepingLemmas.{keeps-handed, keeps-laid, keeps-lifted, keeps-settled, keeps-taken}
 use Rattle.lane_outcomes.proofs.KeptLemmas.{given-long, kept-nothing, magazines-long}
 use Rattle.lane_outcomes.proofs.SlotLemmas.{slots}
-use Rattle.lane_outcomes.specs.Deeds.{Deed, deed_of, freed_by, given_by, register_of, registers_by}
+use Rattle.trace_text.specs.Operations.{register_of}
+use Rattle.lane_outcomes.specs.Deeds.{Deed, deed_of, freed_by, given_by, registers_by}
 use Rattle.lane_outcomes.proofs.SlotRows.{Adds, row-adds, stills-mild}
 use Rattle.lane_outcomes.proofs.WalkLemmas.{all-refused, spent-looks, stills-looks}
 use Rattle.lane_outcomes.specs.Deeds as deed

@@ -25,7 +25,8 @@ use Rattle.lane_outcomes.proofs.KeptLemmas.{kept-emptied}
 use Rattle.lane_outcomes.proofs.MeasureLemmas.{free_at, give_at, measure, measured}
 use Rattle.lane_outcomes.proofs.TallyLemmas.{partition, sum_from}
 use Rattle.lane_outcomes.proofs.SlotRows.{Adds, row-adds}
-use Rattle.lane_outcomes.specs.Deeds.{Deed, deed_of, given_by, register_of}
+use Rattle.trace_text.specs.Operations.{register_of}
+use Rattle.lane_outcomes.specs.Deeds.{Deed, deed_of, given_by}
 use Rattle.lane_outcomes.specs.Deeds as deed
 
 -- no block has more words than a large one may have

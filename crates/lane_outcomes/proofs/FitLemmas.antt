@@ -6,7 +6,7 @@ use Rattle.lane_outcomes.specs.declared.outcome.Outcome.{Outcome}
 use Rattle.lane_outcomes.specs.Lane.{Position, held_in, position_after}
 use Rattle.lane_outcomes.specs.Rows.{FitsRow, Setting}
 use Rattle.lane_outcomes.specs.Fits.{Walks}
-use Rattle.lane_outcomes.specs.Deeds.{register_of}
+use Rattle.trace_text.specs.Operations.{register_of}
 use Rattle.lane_outcomes.proofs.SlotRows.{later, later-at}
 
 pub row-later :

@@ -19,7 +19,8 @@ use Rattle.lane_outcomes.specs.Lane.{Position, held_in, position_after, start, w
 use Rattle.lane_outcomes.specs.Rows.{FitsRow, MayAsk, Setting}
 use Rattle.lane_outcomes.specs.Cached.{CachedFits, CachedLanesFit, CachedBy, CachedOutcomesFit, CachedPosition, CachedRow, CachedWalks, IsGivenBy, cached_after, magazines_by, served_with}
 use Rattle.lane_outcomes.specs.Magazines.{empty_magazines, emptying, freeing, given_from, is_kept, kept_with, last_in, magazine_of, magazines_freed, magazines_given, served_by}
-use Rattle.lane_outcomes.specs.Deeds.{Deed, deed_of, register_of}
+use Rattle.trace_text.specs.Operations.{register_of}
+use Rattle.lane_outcomes.specs.Deeds.{Deed, deed_of}
 use Rattle.lane_outcomes.specs.Deeds as deed
 use Rattle.lane_outcomes.proofs.SlotRows.{Dealt, Hands, dealt-row, row-hands}
 

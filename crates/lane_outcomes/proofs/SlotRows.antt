@@ -12,7 +12,8 @@ use Rattle.lane_outcomes.specs.declared.registers.HeldBlock.{HeldBlock}
 use Rattle.lane_outcomes.specs.declared.outcome.Outcome.{Outcome}
 use Rattle.lane_outcomes.specs.declared.outcome.Outcome.TheVariants as outcome
 use Rattle.lane_outcomes.specs.Cached.{CachedBy, CachedPosition, CachedRow, FreedRow, GivenRow, ReplacedRow}
-use Rattle.lane_outcomes.specs.Deeds.{Deed, deed_of, register_of}
+use Rattle.trace_text.specs.Operations.{register_of}
+use Rattle.lane_outcomes.specs.Deeds.{Deed, deed_of}
 use Rattle.lane_outcomes.specs.Deeds as deed
 use Rattle.lane_outcomes.specs.Lane.{Position, filling, held_in, writing}
 use Rattle.lane_outcomes.specs.Rows.{FitsRow, IsCopy, IsSpent, MayAsk, Moment, RowAt, Setting, TakeRow}

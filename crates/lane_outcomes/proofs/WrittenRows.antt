@@ -8,7 +8,8 @@ use Rattle.pool_model.proofs.HistoryLemmas.{push-append}
 use Rattle.trace_text.specs.declared.trace.Op.{Op}
 use Rattle.lane_outcomes.specs.declared.outcome.Outcome.{Outcome}
 use Rattle.lane_outcomes.specs.Cached.{CachedPosition, CachedWalks, IsGivenBy}
-use Rattle.lane_outcomes.specs.Deeds.{Deed, deed_of, register_of}
+use Rattle.trace_text.specs.Operations.{register_of}
+use Rattle.lane_outcomes.specs.Deeds.{Deed, deed_of}
 use Rattle.lane_outcomes.specs.Deeds as deed
 use Rattle.lane_outcomes.specs.Lane.{writing}
 use Rattle.lane_outcomes.specs.Magazines.{freeing, is_kept, magazines_given, served_by}

@@ -9,7 +9,8 @@ use Rattle.pool_model.specs.Histories.{own, caller_of}
 use Rattle.trace_text.specs.declared.trace.Op.{Op}
 use Rattle.lane_outcomes.specs.declared.registers.HeldBlock.{HeldBlock}
 use Rattle.lane_outcomes.specs.declared.outcome.Outcome.{Outcome}
-use Rattle.lane_outcomes.specs.Deeds.{Deed, deed_of, register_of}
+use Rattle.trace_text.specs.Operations.{register_of}
+use Rattle.lane_outcomes.specs.Deeds.{Deed, deed_of}
 use Rattle.lane_outcomes.specs.Deeds as deed
 use Rattle.lane_outcomes.specs.Lane.{Position, answered_after, filling, held_in, registers_after, spent_after, start, writing}
 use Rattle.lane_outcomes.specs.Rows.{FitsRow, IsCopy, MayAsk, Setting}

@@ -9,16 +9,6 @@ use Rattle.lane_outcomes.specs.declared.registers.HeldBlock.{HeldBlock}
 use Rattle.lane_outcomes.specs.declared.outcome.Outcome.{Outcome}
 use Rattle.lane_outcomes.specs.declared.outcome.Outcome.TheVariants as outcome
 
--- the register that an operation is on
-abbrev pub register_of : Op → ℕ
-register_of (op.Alloc r need v) = r
-register_of (op.Free r) = r
-register_of (op.Fill r v) = r
-register_of (op.Check r) = r
-register_of (op.Put r shelf) = r
-register_of (op.Take r shelf) = r
-register_of (op.Resize r need) = r
-
 -- a block is given for a need and filled from v on, or given in place of the register's block, which is freed; the allocation of a need is refused, or
 -- finds no turn left; the register's block is freed, or laid on a shelf; one is taken from a shelf; or each block stays where it is
 pub data Deed : Type 0 where

@@ -6,7 +6,8 @@ use Rattle.trace_text.specs.declared.trace.Op.{Op}
 use Rattle.lane_outcomes.specs.declared.registers.HeldBlock.{HeldBlock}
 use Rattle.lane_outcomes.specs.declared.outcome.Outcome.{Outcome}
 use Rattle.lane_outcomes.specs.declared.live.Amount.{Amount}
-use Rattle.lane_outcomes.specs.Deeds.{deed_of, freed_by, given_by, register_of}
+use Rattle.trace_text.specs.Operations.{register_of}
+use Rattle.lane_outcomes.specs.Deeds.{deed_of, freed_by, given_by}
 use Rattle.lane_outcomes.specs.Lane.{held_in, registers_after}
 
 -- the words of the block that an operation was given

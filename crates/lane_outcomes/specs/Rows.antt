@@ -13,7 +13,7 @@ use Rattle.trace_text.specs.declared.trace.Op.TheVariants as op
 use Rattle.lane_outcomes.specs.declared.registers.HeldBlock.{HeldBlock}
 use Rattle.lane_outcomes.specs.declared.outcome.Outcome.{Outcome}
 use Rattle.lane_outcomes.specs.declared.outcome.Outcome.TheVariants as outcome
-use Rattle.lane_outcomes.specs.Deeds.{register_of}
+use Rattle.trace_text.specs.Operations.{register_of}
 use Rattle.lane_outcomes.specs.Lane.{Position, held_in, is_small, filling, writing}
 
 -- what a lane's outcomes are held against: its number, the most turns of a caller, and the history and the lost exchanges of the closed heap

@@ -17,7 +17,7 @@ use Rattle.trace_text.specs.Traces.{IsTrace}
 use Rattle.errand_steps.specs.Begins.{IsIdle}
 use Rattle.errand_steps.specs.Errands.{open_errand}
 use Rattle.errand_steps.specs.Openings.{opening, IsOpening}
-use Rattle.sound_state.specs.Runs.{Move, steps}
+use Rattle.sound_state.specs.Runs.{Move}
 use Rattle.sound_laws.specs.bounds.Contention.{lost_of}
 use Rattle.sound_state.specs.Sums.{callers_sum}
 use Rattle.sound_state.proofs.shared.SumLemmas.{term-sum}
@@ -31,16 +31,15 @@ use Rattle.lane_outcomes.specs.Fits.{Fits}
 use Rattle.lane_outcomes.specs.Passed.{AllPassed}
 use Rattle.lane_outcomes.specs.Standing.{setting_in}
 use Rattle.trace_lane.specs.declared.lane.LaneState.{LaneState}
-use Rattle.trace_lane.specs.declared.stage.OperationStage.TheVariants as stage
 use Rattle.trace_lane.specs.Begun.{calls_of}
 use Rattle.lane_engine.specs.Engines.{machine_at}
 use Rattle.trace_lane.specs.Lanes.{IsLane}
 use Rattle.lane_runner.specs.Driven.{IsAtItsEnd, IsDriven, IsDrivenSoFar, lost_by_all, mover_of}
 use Rattle.lane_runner.specs.Orders.{InOrder, OneByOne}
-use Rattle.trace_lane.specs.Paths.{begun_count, FirstPassed}
+use Rattle.trace_lane.specs.Paths.{FirstPassed}
 use Rattle.lane_runner.specs.Running.{HasEnded, HasPassed, HaveFinished, LanesRan, operations_in, HaveRunBefore, IsRunning}
-use Rattle.trace_lane.specs.Scripts.{Scripts}
-use Rattle.trace_lane.specs.States.{AreNew, IsNew}
+use Rattle.trace_lane.specs.Scripts.{Scripts, begun_count}
+use Rattle.trace_lane.specs.States.{AreNew, IsNew, work_at}
 use Rattle.trace_lane.proofs.EndedLemmas.{lane-new, lane-script, lane-start, lane-resting}
 use Rattle.trace_lane.proofs.FitLemmas.{lane-fits}
 use Rattle.lane_runner.proofs.RunLanes.{element_at, registers_on, stands-there}
@@ -76,10 +75,10 @@ opened-errand g c caller opened has =
 
 -- a new lane has begun nothing
 new-passed :
-    (passed : ℕ → ℕ → Type 0) (lane : LaneState Grip) → lane.outcomes.items ≡ [] → lane.stage ≡ stage.Between → HasPassed passed lane
+    (passed : ℕ → ℕ → Type 0) (lane : LaneState Grip) → lane.outcomes.items ≡ [] → lane.work ≡ None → HasPassed passed lane
 new-passed passed lane none between op lt =
-    let zero_begun : begun_count lane.outcomes.items lane.stage ≡ 0 =
-    ap (λ (results : List Outcome). begun_count results lane.stage) none ∙ ap (λ at. begun_count [] at) between in
+    let zero_begun : begun_count lane.outcomes.items lane.work ≡ 0 =
+    ap (λ (results : List Outcome). begun_count results lane.work) none ∙ ap (λ at. begun_count {B = Grip} [] at) between in
     absurd (omega (arith, lt, zero_begun))
 
 -- new lanes stand on it, and have made no move
@@ -133,7 +132,7 @@ so-none trace first is opened core = record {
   on_way = λ lane lt. record {
     registers = empty;
     results = [];
-    at = stage.Between;
+    at = None;
     rule =
         let has : lane < trace.heap.callers = omega (arith, lt, at-least-one (length trace.lanes) trace.heap.callers is.callers) in
         lane-start trace.heap lane first.events (errand_at first.errands lane) (operations_in trace lane) (opened.errands lane has) opened.events
@@ -191,10 +190,10 @@ module _ {passed : ℕ → ℕ → Type 0} {trace : Trace} {last : CoreFields} {
       record {
         registers = registers;
         rule =
-            subst (λ results. IsLane trace.heap lane last.events (errand_at last.errands lane) ops registers results stage.Between calls)
+            subst (λ results. IsLane trace.heap lane last.events (errand_at last.errands lane) ops registers results None calls)
             (result-at lane lt)
             (subst (λ at. IsLane trace.heap lane last.events (errand_at last.errands lane) ops registers e.state.outcomes.items at calls)
-            e.ended.between (stands-there trace.heap last ops lane e.state moves ran.moved.heap e.runs.number e.runs.stands));
+            (ap (work_at (machine_at last e.state.caller)) e.ended.between) (stands-there trace.heap last ops lane e.state moves ran.moved.heap e.runs.number e.runs.stands));
       }
 
   scripts :
@@ -239,7 +238,7 @@ module _ {passed : ℕ → ℕ → Type 0} {trace : Trace} {last : CoreFields} {
   all-passed =
       all-gone passed trace (λ lane lt.
       let e = at-end lane lt in
-      let all : begun_count e.state.outcomes.items e.state.stage ≡ length (operations_in trace lane) =
+      let all : begun_count e.state.outcomes.items e.state.work ≡ length (operations_in trace lane) =
       ap (begun_count e.state.outcomes.items) e.ended.between ∙ omega (arith, e.ended.all) in
       subst (λ k. FirstPassed passed k (length (operations_in trace lane))) e.runs.number (subst (FirstPassed passed e.state.caller) all e.runs.gone))
 

@@ -13,7 +13,8 @@ use Rattle.block_cache.specs.declared.cache.Cache.{Cache}
 use Rattle.block_cache.specs.Whole.{HoldsAt, RestsAt}
 use Rattle.trace_lane.proofs.AddedLemmas.{HasAdded}
 use Rattle.trace_lane.proofs.CallerLemmas.{Owns}
-use Rattle.trace_lane.proofs.HoldsLemmas.{HoldsAll, holds-still}
+use Rattle.trace_lane.proofs.EachCall.{HoldsAll}
+use Rattle.trace_lane.proofs.HoldsLemmas.{holds-still}
 use Rattle.trace_lane.proofs.RowLemmas.{IsBetween as IsBetweenOn, setting_at as setting_on}
 use Rattle.lane_runner.proofs.CallLemmas.{caller_in}
 use Rattle.lane_runner.proofs.Places.{places_in}

@@ -29,7 +29,7 @@ use Rattle.lane_runner.specs.Driven.{Drives, IsOnItsWay, OthersAreOnTheirWay, mo
 use Rattle.trace_lane.specs.Paths.{IsBy, MovesLead}
 use Rattle.lane_runner.specs.Running.{HasEnded, HasEndedIn, HasRun, IsRunning, LanesMoved, LanesRan, operations_in}
 use Rattle.trace_lane.specs.Lanes.{IsLane}
-use Rattle.trace_lane.specs.States.{IsLaneOf, IsLaneOn, registers_at}
+use Rattle.trace_lane.specs.States.{IsLaneOf, IsLaneOn, registers_at, work_at}
 use Rattle.lane_engine.specs.Engines.{machine_at}
 use Rattle.trace_lane.proofs.EndedLemmas.{lane_of-beside}
 use Rattle.trace_lane.proofs.AdvanceLemmas.{calls-append, steps-append}
@@ -137,12 +137,12 @@ registers_on c lane = registers_at (machine_at c lane.caller) lane.registers.ite
 pub stands-there :
     (g : Geometry) (c : CoreFields) (operations : List Op) (lane : ℕ) (state : LaneState Grip) (moves : List Move) → c.geometry ≡ g
     → state.caller ≡ lane → IsLaneOn c operations state (calls_of state.caller moves)
-    → IsLane g lane c.events (errand_at c.errands lane) operations (registers_on c state) state.outcomes.items state.stage (calls_of lane moves)
+    → IsLane g lane c.events (errand_at c.errands lane) operations (registers_on c state) state.outcomes.items (work_at (machine_at c state.caller) state.work) (calls_of lane moves)
 stands-there g c operations lane state moves heap number stands =
     let held = registers_on c state in
-    let results = state.outcomes.items in
-    subst (λ k. IsLane g k c.events (errand_at c.errands k) operations held results state.stage (calls_of k moves)) number
-    (subst (λ h. IsLane h state.caller c.events (errand_at c.errands state.caller) operations held results state.stage (calls_of state.caller moves)) heap
+    let at = work_at (machine_at c state.caller) state.work in
+    subst (λ k. IsLane g k c.events (errand_at c.errands k) operations held state.outcomes.items at (calls_of k moves)) number
+    (subst (λ h. IsLane h state.caller c.events (errand_at c.errands state.caller) operations held state.outcomes.items at (calls_of state.caller moves)) heap
     stands.stands)
 
 pub on-way :
@@ -151,7 +151,7 @@ pub on-way :
 on-way passed trace c moves lane state heap runs = record {
   registers = registers_on c state;
   results = state.outcomes.items;
-  at = state.stage;
+  at = work_at (machine_at c state.caller) state.work;
   rule = stands-there trace.heap c (operations_in trace lane) lane state moves heap runs.number runs.stands;
 }
 

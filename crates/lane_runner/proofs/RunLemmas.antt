@@ -1,5 +1,5 @@
 -- Advances of one lane on a machine, one after another.
-use Rattle.std.proofs.Common.{ℕ, ◌≡◌, ◌+◌, Bool, true, false, if◌then◌else◌, List, [], ◌∷◌, ◌++◌, length, refl, sym, ap, ◌∙◌, subst, inl, inr, arith, append_assoc}
+use Rattle.std.proofs.Common.{ℕ, ◌≡◌, ◌+◌, Bool, true, false, if◌then◌else◌, List, [], None, ◌∷◌, ◌++◌, length, refl, sym, ap, ◌∙◌, subst, inl, inr, arith, append_assoc}
 use Rattle.std.proofs.lemmas.Bool.{true≢false}
 use Rattle.std.specs.Prelude.{All, count_by}
 use Rattle.std.proofs.lemmas.List.{append-nil}
@@ -12,15 +12,15 @@ use Rattle.sound_state.specs.Runs.{Move, begins, steps}
 use Rattle.step_machine.specs.Cores.{CoreFields, errand_at}
 use Rattle.lane_engine.specs.declared.grip.Grip.{Grip}
 use Rattle.trace_lane.specs.declared.lane.LaneState.{LaneState}
-use Rattle.trace_lane.specs.declared.stage.OperationStage.TheVariants as stage
 use Rattle.trace_lane.specs.Begun.{calls_of}
 use Rattle.lane_runner.specs.Driven.{steppers_of}
-use Rattle.trace_lane.specs.Paths.{IsBy, MovesLead, FirstPassed, begun_count}
+use Rattle.trace_lane.specs.Paths.{IsBy, MovesLead, FirstPassed}
 use Rattle.lane_runner.specs.Running.{HasEnded, HasRun}
 use Rattle.trace_lane.specs.Advances.{AdvancesOn, HasAdvanced}
-use Rattle.trace_lane.specs.Scripts.{script_left}
+use Rattle.trace_lane.specs.Scripts.{begun_count, script_left}
 use Rattle.trace_lane.proofs.AdvanceLemmas.{calls-append, leads-append, steps-append}
-use Rattle.trace_lane.specs.States.{IsLaneOn, StandsOn}
+use Rattle.trace_lane.specs.States.{IsLaneOn, StandsOn, work_at}
+use Rattle.lane_engine.specs.Engines.{machine_at}
 use Rattle.trace_lane.proofs.EndedLemmas.{lane-resting}
 
 -- the callers that made steps, of moves one after the other
@@ -76,9 +76,9 @@ ran-more {a = a} {b = b} {c = c} {operations = operations} {old = old} {mid = mi
 
 -- the errand of a lane between two operations is idle
 pub between-idle :
-    (c : CoreFields) (operations : List Op) (lane : LaneState Grip) → StandsOn c operations lane → lane.stage ≡ stage.Between
+    (c : CoreFields) (operations : List Op) (lane : LaneState Grip) → StandsOn c operations lane → lane.work ≡ None
     → IsIdle (errand_at c.errands lane.caller)
-between-idle c operations lane stands is = (lane-resting stands.stands.stands is).rests.idle
+between-idle c operations lane stands is = (lane-resting stands.stands.stands (ap (work_at (machine_at c lane.caller)) is)).rests.idle
 
 -- a step is made by a caller in a call
 first-idle :
@@ -94,7 +94,7 @@ none-made false is = refl
 none-made true is = absurd (zero≢one is)
 
 -- a lane that has ended has nothing of its script left
-ended-left : (operations : List Op) (lane : LaneState Grip) → HasEnded operations lane → script_left operations lane.outcomes.items lane.stage ≡ 0
+ended-left : (operations : List Op) (lane : LaneState Grip) → HasEnded operations lane → script_left operations lane.outcomes.items lane.work ≡ 0
 ended-left operations lane ended = omega (arith, ended.all)
 
 -- a lane that has ended makes no step, and stays so
@@ -106,7 +106,7 @@ ended-stays c after operations old new made stands advanced ended =
     let idle = between-idle c operations old stands ended.between in
     elim advanced.goes_on [
       | inl lt ↦ absurd (
-          let none : script_left operations old.outcomes.items old.stage ≡ 0 = ended-left operations old ended in
+          let none : script_left operations old.outcomes.items old.work ≡ 0 = ended-left operations old ended in
           omega (arith, lt, none)
           )
       | inr same ↦ elim same.2 [
@@ -140,7 +140,7 @@ advanced-ran {passed = passed} {c = c} {after = after} {operations = operations}
   still = λ ended.
       let stays = ended-stays c after operations old new made stands goes.advanced ended in
       (ap (λ b. if b then 1 else 0) stays.0, stays.1);
-  gate = λ gone. subst (λ caller. FirstPassed passed caller (begun_count new.outcomes.items new.stage)) (sym goes.caller) (goes.gate gone);
+  gate = λ gone. subst (λ caller. FirstPassed passed caller (begun_count new.outcomes.items new.work)) (sym goes.caller) (goes.gate gone);
 }
 
 -- a run of a lane with an advance behind it is a run

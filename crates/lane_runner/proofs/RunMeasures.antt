@@ -112,7 +112,7 @@ none-told caller events p x same = none-with caller events (event_of caller p x)
 -- what is left of a lane: of its script, and of the call under way
 abbrev pub lane_left : CoreFields → List Op → LaneState Grip → ℕ
 lane_left c operations lane =
-    script_left operations lane.outcomes.items lane.stage * 2 ^ 64 + alone_left c.geometry (state_of c) lane.caller
+    script_left operations lane.outcomes.items lane.work * 2 ^ 64 + alone_left c.geometry (state_of c) lane.caller
 
 -- less is left, in numbers, where a take begins again, where the script falls, and where only the call does
 below-again :

@@ -8,7 +8,7 @@ use Rattle.live_heap.specs.Heaps.{HeapFields}
 use Rattle.live_heap.specs.Passes.{seen}
 use Rattle.trace_text.specs.declared.trace.Op.{Op}
 use Rattle.trace_text.specs.declared.trace.Op.TheVariants as op
-use Rattle.lane_outcomes.specs.Deeds.{register_of}
+use Rattle.trace_text.specs.Operations.{register_of}
 use Rattle.lane_outcomes.specs.declared.registers.HeldBlock.{HeldBlock}
 use Rattle.lane_outcomes.specs.declared.outcome.Outcome.{Outcome}
 use Rattle.lane_outcomes.specs.declared.outcome.Outcome.TheVariants as outcome
@@ -24,8 +24,10 @@ use Rattle.trace_lane.proofs.AnswerLemmas.{HasMovedOn}
 use Rattle.trace_lane.proofs.CallerLemmas.{moved-none, moved-then}
 use Rattle.lane_engine.proofs.KeptLemmas.{cached-laws}
 use Rattle.lane_engine.proofs.LeadsLemmas.{leads-of}
-use Rattle.trace_lane.proofs.EachCall.{all-found, all-takes, all-wrote, AllCalls}
+use Rattle.trace_lane.proofs.EachCall.{all-light, all-takes, AllCalls}
 use Rattle.trace_lane.proofs.HoldsLemmas.{op-holds}
+use Rattle.trace_lane.proofs.OperationLemmas.{HandlesBy, made-handles}
+use Rattle.lane_outcomes.specs.Deeds as deed
 use Rattle.trace_lane.proofs.WalkLemmas.{between-next}
 use Rattle.trace_lane.proofs.TurnLemmas.{cached-answered}
 use Rattle.lane_runner.proofs.CallLemmas.{caller_in, plain, IsPlain, alloc-by, plain-leads}
@@ -38,7 +40,8 @@ use Rattle.live_heap.specs.declared.block.Block.{Block}
 use Rattle.lane_outcomes.specs.Magazines.{served_by}
 use Rattle.lane_outcomes.specs.Rows.{FitsRow}
 use Rattle.block_cache.specs.Caches.{KeepsMagazines}
-use Rattle.trace_lane.proofs.RowLemmas.{HasGone as HasGoneOn, op-gone}
+use Rattle.trace_lane.proofs.OperationLemmas.{op-gone}
+use Rattle.trace_lane.proofs.RowLemmas.{HasGone as HasGoneOn}
 
 module _ (h : HeapFields) (c d : Cache) (base : Position) (st : IsBetween h c base) where
   abbrev depth : ℕ
@@ -93,46 +96,43 @@ module _ (h : HeapFields) (c d : Cache) (base : Position) (st : IsBetween h c ba
             gone-plain operation result gone keeps (row (not-served c (need_of need) no_block) gone.piece gone.row) none same
       ]
 
+  -- each block stays where it is: no call has to do with a magazine
+  stays-plain : (slot : Option HeldBlock) (made : List Made) → HandlesBy slot deed.stays made → AllCalls IsPlain made
+  stays-plain slot made (inl stays) = all-light plain made stays
+  stays-plain slot made (inr (place, need, shelf, found, calls)) = subst (AllCalls IsPlain) (sym calls) ((λ tried. tried), tt)
+
   -- an operation that was made
   op-through :
       (operation : Op) (result : Outcome) (slot : Option HeldBlock) (made : List Made) → held_in base.registers (register_of operation) ≡ slot
       → MadeFor slot operation result made → Leads made → HasGone h c d base operation result
-  op-through (op.Alloc r need v) outcome.Skipped slot made is for leads = plain-gone is for for.1 tt leads (λ piece row. row) refl refl
-  op-through (op.Take r shelf) outcome.Skipped slot made is for leads = plain-gone is for for.1 tt leads (λ piece row. row) refl refl
-  op-through (op.Free r) outcome.Skipped slot made is for leads = plain-gone is for for.1 tt leads (λ piece row. row) refl refl
-  op-through (op.Fill r v) outcome.Skipped slot made is for leads = plain-gone is for for.1 tt leads (λ piece row. row) refl refl
-  op-through (op.Check r) outcome.Skipped slot made is for leads = plain-gone is for for.1 tt leads (λ piece row. row) refl refl
-  op-through (op.Put r shelf) outcome.Skipped slot made is for leads = plain-gone is for for.1 tt leads (λ piece row. row) refl refl
-  op-through (op.Resize r need) outcome.Skipped slot made is for leads = plain-gone is for for.1 tt leads (λ piece row. row) refl refl
   op-through (op.Alloc r need v) (outcome.Given words place) None made is (words_are, calls) leads =
       given h c d base st r need v words place is words_are (subst Leads calls leads)
+  op-through (op.Alloc r need v) (outcome.Given words place) (Some held) made is for leads = absurd for
   op-through (op.Alloc r need v) outcome.Refused None made is calls leads =
       ungiven need reply.Refused is refl (subst Leads calls leads) (λ block given. cc) (λ none piece row. (none, row)) refl refl
+  op-through (op.Alloc r need v) outcome.Refused (Some held) made is for leads = absurd for
   op-through (op.Alloc r need v) outcome.Spent None made is calls leads =
       ungiven need reply.Spent is refl (subst Leads calls leads) (λ block given. cc) (λ none piece row. (none, row)) refl refl
+  op-through (op.Alloc r need v) outcome.Spent (Some held) made is for leads = absurd for
   op-through (op.Free r) outcome.Freed (Some held) made is (words, calls) leads = freed h c d base st r held is (subst Leads calls leads)
-  op-through (op.Fill r v) outcome.Filled (Some held) made is (words, calls) leads =
-      plain-gone is (words, calls) calls (all-wrote plain held.place held.need v held.words) leads (λ piece row. row) refl refl
-  op-through (op.Check r) (outcome.Sum total) (Some held) made is (words_are, (words, all, total_is, calls)) leads =
-      plain-gone is (words_are, (words, all, total_is, calls)) calls (all-found plain held.place held.need 0 words) leads (λ piece row. row) refl refl
+  op-through (op.Free r) outcome.Freed None made is for leads = absurd for
   op-through (op.Put r shelf) outcome.Put (Some held) made is (words, calls) leads =
       plain-gone is (words, calls) calls ((λ tried. tried), tt) leads (λ piece row. row) refl refl
-  op-through (op.Put r shelf) outcome.ShelfFull (Some held) made is (words, (found, calls)) leads =
-      plain-gone is (words, (found, calls)) calls ((λ tried. tried), tt) leads (λ piece row. row) refl refl
+  op-through (op.Put r shelf) outcome.Put None made is for leads = absurd for
   op-through (op.Take r shelf) (outcome.Took words place need) None made is (misses, are, words_are, calls) leads =
       plain-gone is (misses, are, words_are, calls) calls (all-takes plain shelf misses (reply.Got place need) are) leads (λ piece row. row) refl refl
-  op-through (op.Take r shelf) outcome.ShelfEmpty None made is (misses, are, calls) leads =
-      plain-gone is (misses, are, calls) calls (all-takes plain shelf misses reply.Empty are) leads (λ piece row. row) refl refl
-  op-through (op.Resize r need) (outcome.Kept words place) (Some held) made is (serves, words_are, place_is, calls) leads =
-      plain-gone is (serves, words_are, place_is, calls) calls tt leads (λ piece row. row) refl refl
+  op-through (op.Take r shelf) (outcome.Took words place need) (Some held) made is for leads = absurd for
   op-through (op.Resize r need) (outcome.Resized words place) (Some held) made is (differ, words_are, has, found, all, calls) leads =
       resized h c d base st r need words place held found is differ words_are has all (subst Leads calls leads)
+  op-through (op.Resize r need) (outcome.Resized words place) None made is for leads = absurd for
   op-through (op.Resize r need) outcome.Refused (Some held) made is (differ, calls) leads =
       ungiven need reply.Refused is (differ, refl) (subst Leads calls leads) (λ block given. cc) (λ none piece row. (none, row)) refl refl
+  op-through (op.Resize r need) outcome.Refused None made is for leads = absurd for
   op-through (op.Resize r need) outcome.Spent (Some held) made is (differ, calls) leads =
       ungiven need reply.Spent is (differ, refl) (subst Leads calls leads) (λ block given. cc) (λ none piece row. (none, row)) refl refl
-  op-through operation result None made is calls leads = absurd calls
-  op-through operation result (Some held) made is calls leads = absurd calls
+  op-through (op.Resize r need) outcome.Spent None made is for leads = absurd for
+  op-through operation result slot made is for leads =
+      plain-gone is for refl (stays-plain slot made (made-handles operation result slot made for)) leads (λ piece row. row) refl refl
 
 -- the position of a lane behind one more operation
 abbrev base_after : Cache → Position → Op → Outcome → List Event → Position

@@ -20,8 +20,7 @@ use Rattle.lane_outcomes.specs.declared.registers.HeldBlock.{HeldBlock}
 use Rattle.lane_outcomes.specs.Fits.{OutcomesFit}
 use Rattle.lane_runner.specs.Orders.{InOrder}
 use Rattle.trace_lane.specs.Begun.{calls_of}
-use Rattle.trace_lane.specs.declared.stage.OperationStage.{OperationStage}
-use Rattle.trace_lane.specs.declared.stage.OperationStage.TheVariants as stage
+use Rattle.trace_lane.specs.declared.work.Work.{Work}
 use Rattle.trace_lane.specs.Lanes.{IsLane}
 use Rattle.trace_lane.specs.Scripts.{Scripts}
 
@@ -35,7 +34,7 @@ steppers_of (steps caller ∷ moves) = caller ∷ steppers_of moves
 pub record IsOnItsWay (g : Geometry) (operations : List Op) (lane : ℕ) (s : State) (calls : List Call) : Type 0 where
   pub registers : List (Option HeldBlock)
   pub results : List Outcome
-  pub at : OperationStage
+  pub at : Option (Work HeldBlock)
   pub rule : IsLane g lane s.history (s.errand lane) operations registers results at calls
 
 -- the caller whose move it is
@@ -61,7 +60,7 @@ lost_by_all c = callers_sum c.geometry lost_of (errand_at c.errands)
 -- a lane of these operations stands by its rule in this state, behind its last operation, with these outcomes, and has begun these calls
 pub record IsAtItsEnd (g : Geometry) (operations : List Op) (lane : ℕ) (s : State) (results : List Outcome) (calls : List Call) : Type 0 where
   pub registers : List (Option HeldBlock)
-  pub rule : IsLane g lane s.history (s.errand lane) operations registers results stage.Between calls
+  pub rule : IsLane g lane s.history (s.errand lane) operations registers results None calls
 
 -- lanes of a trace have run on this machine since its opening, in this order: moves of its lanes led to it, and each lane is on its way
 pub record IsDrivenSoFar (trace : Trace) (orders : List OrderRun) (c : CoreFields) : Type 0 where

@@ -1,5 +1,5 @@
 -- How lanes stand on a machine, and what their advances make of both.
-use Rattle.std.specs.Prelude.{ℕ, ◌≡◌, ◌<◌, ◌≤◌, ◌++◌, ◌-◌, ◌^◌, List, [], min, length, count_by, All, Contains}
+use Rattle.std.specs.Prelude.{ℕ, ◌≡◌, ◌<◌, ◌≤◌, ◌++◌, ◌-◌, ◌^◌, List, [], None, min, length, count_by, All, Contains}
 use Rattle.std.specs.List.{slice_index_or}
 use Rattle.trace_text.specs.declared.trace.Op.{Op}
 use Rattle.trace_text.specs.declared.trace.Trace.{Trace}
@@ -13,21 +13,21 @@ use Rattle.sound_state.specs.Runs.{Move}
 use Rattle.step_machine.specs.Cores.{CoreFields, IsCore, errand_at, state_of}
 use Rattle.lane_engine.specs.declared.grip.Grip.{Grip}
 use Rattle.trace_lane.specs.declared.lane.LaneState.{LaneState}
-use Rattle.trace_lane.specs.declared.stage.OperationStage.TheVariants as stage
 use Rattle.trace_lane.specs.Begun.{calls_of}
 use Rattle.lane_runner.specs.Driven.{Drives, mover_of, steppers_of}
 use Rattle.lane_runner.specs.Orders.{InOrder, OneByOne}
-use Rattle.trace_lane.specs.Paths.{IsBy, MovesLead, FirstPassed, begun_count}
+use Rattle.trace_lane.specs.Paths.{IsBy, MovesLead, FirstPassed}
+use Rattle.trace_lane.specs.Scripts.{begun_count}
 use Rattle.trace_lane.specs.States.{IsLaneOn, StandsOn}
 
 -- no operation of the lane is under way, and none is left
 pub record HasEnded (operations : List Op) (lane : LaneState Grip) : Type 0 where
-  pub between : lane.stage ≡ stage.Between
+  pub between : lane.work ≡ None
   pub all : length lane.outcomes.items ≡ length operations
 
 -- as many operations as a lane has begun have passed the gate
 abbrev pub HasPassed : (ℕ → ℕ → Type 0) → LaneState Grip → Type 0
-HasPassed passed lane = FirstPassed passed lane.caller (begun_count lane.outcomes.items lane.stage)
+HasPassed passed lane = FirstPassed passed lane.caller (begun_count lane.outcomes.items lane.work)
 
 -- a lane has made so many steps on the machine, and no other caller has moved; one that had ended made none
 pub record HasRun (passed : ℕ → ℕ → Type 0) (c after : CoreFields) (operations : List Op) (old new : LaneState Grip) (made : ℕ) : Type 0 where

@@ -6,4 +6,5 @@ pub mod PagedLemmas
 pub mod RoomLemmas
 pub mod SettledLemmas
 pub mod TableLemmas
+pub mod TablesOfSizes
 pub mod TakenPages

@@ -29,37 +29,59 @@ unit-place g place (Large units) (needs, (unit, within, is)) long = (2 * g.frame
 unit-place g place TooLarge (needs, nowhere) long = absurd nowhere
 
 -- the words of a piece, by how many words it serves
-near-words : (words : ℕ) → words ≤ 64 → piece_words words ≡ steps_of 2 (max words 1) * 2
+close-words : (words : ℕ) → words ≤ 16 → piece_words words ≡ steps_of 2 (max words 1) * 2
 unfolding piece_words
-near-words words near = rw (le-leb words 64 near) refl
+close-words words close = rw (le-leb words 16 close) refl
+
+near-words : (words : ℕ) → 16 < words → words ≤ 32 → piece_words words ≡ steps_of 4 words * 4
+unfolding piece_words
+near-words words close near = rw (lt-leb words 16 close, le-leb words 32 near) refl
+
+middle-words : (words : ℕ) → 32 < words → words ≤ 64 → piece_words words ≡ steps_of 8 words * 8
+unfolding piece_words
+middle-words words near middle = rw (lt-leb words 16 (omega (arith, near)), lt-leb words 32 near, le-leb words 64 middle) refl
 
 far-words : (words : ℕ) → 64 < words → words ≤ 256 → piece_words words ≡ steps_of 16 words * 16
 unfolding piece_words
-far-words words near far = rw (lt-leb words 64 near, le-leb words 256 far) refl
+far-words words middle far =
+    rw (lt-leb words 16 (omega (arith, middle)), lt-leb words 32 (omega (arith, middle)), lt-leb words 64 middle, le-leb words 256 far) refl
 
-paired-words : (words : ℕ) → 64 < words → 256 < words → words ≤ 1022 → piece_words words ≡ 1023 / (1023 / steps_of 2 words) * 2
+paired-words : (words : ℕ) → 256 < words → words ≤ 1022 → piece_words words ≡ 1023 / (1023 / steps_of 2 words) * 2
 unfolding piece_words
-paired-words words near far paired = rw (lt-leb words 64 near, lt-leb words 256 far, le-leb words 1022 paired) refl
+paired-words words far paired =
+    rw (lt-leb words 16 (omega (arith, far)), lt-leb words 32 (omega (arith, far)), lt-leb words 64 (omega (arith, far)), lt-leb words 256 far, le-leb words 1022 paired) refl
 
-alone-words : (words : ℕ) → 64 < words → 256 < words → 1022 < words → piece_words words ≡ usable_words (need_of (page_words words))
+alone-words : (words : ℕ) → 1022 < words → piece_words words ≡ usable_words (need_of (page_words words))
 unfolding piece_words
-alone-words words near far alone = rw (lt-leb words 64 near, lt-leb words 256 far, lt-leb words 1022 alone) refl
+alone-words words alone =
+    rw (lt-leb words 16 (omega (arith, alone)), lt-leb words 32 (omega (arith, alone)), lt-leb words 64 (omega (arith, alone)), lt-leb words 256 (omega (arith, alone)), lt-leb words 1022 alone) refl
 
 -- where a page has two pieces or more they have an even number of words
 abbrev IsEven : ℕ → Type 0
 IsEven size = (half : ℕ) × (size ≡ 2 * half) × (size ≤ 2047)
 
+larger-even : (words : ℕ) → 32 < words → words ≤ 1022 → IsEven (piece_words words)
+larger-even words more small =
+    elim (cases_lt 64 words) [
+      | inr middle ↦ (4 * steps_of 8 words, omega (arith, middle-words words more middle), omega (arith, middle-words words more middle))
+      | inl many ↦
+          elim (cases_lt 256 words) [
+            | inr far ↦ (8 * steps_of 16 words, omega (arith, far-words words many far), omega (arith, far-words words many far))
+            | inl most ↦
+                let is = paired-words words most small in
+                let within = div-le_self 1023 (1023 / steps_of 2 words) in
+                (1023 / (1023 / steps_of 2 words), omega (arith, is), omega (arith, is, within))
+          ]
+    ]
+
 small-even : (words : ℕ) → words ≤ 1022 → IsEven (piece_words words)
 small-even words small =
-    elim (cases_lt 64 words) [
-      | inr near ↦ (steps_of 2 (max words 1), omega (arith, near-words words near), omega (arith, near-words words near))
+    elim (cases_lt 16 words) [
+      | inr close ↦ (steps_of 2 (max words 1), omega (arith, close-words words close), omega (arith, close-words words close))
       | inl more ↦
-          elim (cases_lt 256 words) [
-            | inr far ↦ (8 * steps_of 16 words, omega (arith, far-words words more far), omega (arith, far-words words more far))
-            | inl many ↦
-                let is = paired-words words more many small in
-                let most = div-le_self 1023 (1023 / steps_of 2 words) in
-                (1023 / (1023 / steps_of 2 words), omega (arith, is), omega (arith, is, most))
+          elim (cases_lt 32 words) [
+            | inr near ↦ (2 * steps_of 4 words, omega (arith, near-words words more near), omega (arith, near-words words more near))
+            | inl most ↦ larger-even words most small
           ]
     ]
 
@@ -100,7 +122,7 @@ page-for words place need some is enough aligned =
                 (n * even.0, ap (λ k. n * k) even.1 ∙ twice);
           }
       | inl alone ↦
-          let whole : size ≡ usable_words need = alone-words words (omega arith) (omega arith) alone ∙ ap usable_words (sym is) in
+          let whole : size ≡ usable_words need = alone-words words alone ∙ ap usable_words (sym is) in
           let one : usable_words need / size ≡ 1 = ap (λ u. u / size) (sym whole) ∙ div_self some in
           let none : (n : ℕ) → n < usable_words need / size → n * size ≡ 0 = λ n below.
           let first : n ≡ 0 = omega (arith, one, below) in

@@ -1,5 +1,5 @@
 -- A paged cache, through what is done with its pages.
-use Rattle.std.proofs.Common.{ℕ, ◌≡◌, ◌≢◌, ◌+◌, ◌-◌, ◌*◌, ◌/◌, ◌%◌, ◌^◌, ◌<◌, ◌≤◌, List, [], Option, Some, None, Result, Ok, false, true, ◌⊎◌, length, slice_index_or, refl, sym, ap, subst, ◌∙◌, arith, inl, inr}
+use Rattle.std.proofs.Common.{ℕ, ◌≡◌, ◌≢◌, ◌+◌, ◌-◌, ◌*◌, ◌/◌, ◌%◌, ◌^◌, ◌<◌, ◌≤◌, List, [], Option, Some, None, Result, Ok, false, true, length, slice_index_or, refl, sym, ap, subst, ◌∙◌, arith, inl, inr}
 use Rattle.std.specs.Prelude.{All, IfOk, slice_set}
 use Rattle.std.specs.Result.{IfErr}
 use Rattle.std.specs.Vec.{with_item}
@@ -23,7 +23,7 @@ use Rattle.memory_cache.specs.declared.paged.PagedCache.{PagedCache}
 use Rattle.memory_cache.specs.declared.piece.Piece.{Piece}
 use Rattle.memory_cache.specs.Asking.{HasSettled, LiesElsewhere, SendsHome}
 use Rattle.memory_cache.specs.Caches.{HasKept, HasRoom, IsCache, IsHeld, KeepsMagazines, kept_in}
-use Rattle.memory_cache.specs.Paged.{ActsBehind, CameOf, GoesBehind, HasAt, HasCut, HasGiven, HasNewPage, HasPut, HasSameOut, HasSamePages, HasTakenIn, HasTold, IsLastOut, IsOfPage, IsOtherReady, IsOut, IsOutBy, IsPageOf, IsPaged, IsReadyAt, IsWholeAt, PopsAt, PushesAt, SamePages, TakesBack, page_at, ready_for}
+use Rattle.memory_cache.specs.Paged.{ActsBehind, CameOf, GoesBehind, HasAt, HasCut, HasGiven, HasNewPage, HasPut, HasSameOut, HasSamePages, HasTakenIn, HasTold, IsIn, IsLastOut, IsOfPage, IsOtherReady, IsOut, IsOutBy, IsPageOf, IsPaged, IsReadyAt, IsWholeAt, PopsAt, PushesAt, SamePages, TakesBack, page_at, ready_for}
 use Rattle.memory_cache.specs.Pages.{AllHome, AreHere, IsNear, IsOutAt, IsPageFor, IsPiece, IsSamePage, count_of, first_of, slot_at}
 use Rattle.memory_cache.specs.Sizes.{page_words, piece_words}
 use Rattle.memory_cache.proofs.SettledLemmas.{pass-of}
@@ -195,34 +195,6 @@ told-put h c x d words tries is put size enough =
       only = λ first long o away.
           at-only c put.k put.page put.left d put.there a left first long (pops-only put.page x put.left pops first away) o;
       cause = tt;
-    }
-
--- what was told behind a change of hints
-pub told-after :
-    (h : HeapFields) (c d e : PagedCache) (words tries : ℕ) (told : Result (AllocAnswer Piece) AllocError) → HasSamePages c d
-    → HasTold h d words tries told e → HasTold h c words tries told e
-told-after h c d e words tries told s t =
-    record {
-      paged = t.paged;
-      caller = t.caller ∙ caller-on c d s.cache;
-      given = t.given;
-      aligned = t.aligned;
-      fresh = λ x size is o. t.fresh x size is (out-on c d s.pages x.first size o);
-      keeps = λ first size o. t.keeps first size (out-on c d s.pages first size o);
-      only = λ first size o away. out-on d c (table-back c d s.pages) first size (t.only first size o away);
-      cause = subst (λ (m : MemoryCache). IfOk told (λ a. CameOf h m.pass (page_words words) tries a e.cache.pass)) s.cache t.cause;
-    }
-
-pub new-after :
-    (h : HeapFields) (c d e : PagedCache) (words tries first : ℕ) → HasSamePages c d → HasNewPage h d words tries first e → HasNewPage h c words tries first e
-new-after h c d e words tries first s new =
-    record {
-      memory = new.memory;
-      given = subst (λ (q : MemoryCache). HasGiven h q (page_words words) tries new.memory e.cache) s.cache new.given;
-      page = new.page;
-      none = none-back (page_at c (first / 2048)) (page_at d (first / 2048)) (s.pages (first / 2048)) new.none;
-      now = new.now;
-      of = new.of;
     }
 
 -- nothing was given
@@ -723,6 +695,14 @@ popped-put c x k size before after ready read came =
       put-set c (with_page c k after) k before after x there came refl refl,
       came.pops.size ∙ ap (λ (p : Page). p.size) (sym one) ∙ ready.sized,
     )
+
+-- its page was there
+pub popped-in : (h : HeapFields) (c : PagedCache) (x : Piece) (d : PagedCache) → IsPaged h c → HasPut c x d → IsIn c x.first x.size
+popped-in h c x d is put =
+    let pops = put.pops in
+    let key : x.first / 2048 ≡ put.k =
+    ap (λ f. f / 2048) pops.first ∙ page-key h c put.k put.page (is.pages put.k put.page put.there) pops.number pops.within in
+    record { page = put.page; there = ap (page_at c) key ∙ put.there; sized = sym pops.size }
 
 pub taken-in :
     (h : HeapFields) (c : PagedCache) (x : Piece) (before after : Option Page) → IsPaged h c → IsPiece h x → IsOut c x.first x.size

@@ -47,7 +47,13 @@ pub record IsOut (c : PagedCache) (first size : ℕ) : Type 0 where
   pub out : IsOutAt page first
   pub sized : page.size ≡ size
 
--- the same, and the piece has this number in its page
+-- the word lies in a page that is there, whose pieces have so many words
+pub record IsIn (c : PagedCache) (first size : ℕ) : Type 0 where
+  pub page : Page
+  pub there : page_at c (first / 2048) ≡ Some page
+  pub sized : page.size ≡ size
+
+-- a caller has the piece, and it has this number in its page
 pub record IsOutBy (c : PagedCache) (number first size : ℕ) : Type 0 where
   pub page : Page
   pub there : page_at c (first / 2048) ≡ Some page

@@ -31,25 +31,25 @@ pub(crate) enum Slot {
 /// `before` and `behind` are ways to find other pages, and bind nobody.
 #[derive(Drop)]
 pub(crate) struct Page {
-    pub(crate) place: u32,
     pub(crate) need: Need,
-    pub(crate) size: u32,
-    /// The number of that size.
+    /// The number of the size of its pieces.
     pub(crate) kind: u8,
+    pub(crate) place: u32,
+    pub(crate) size: u32,
     /// The scale by the size, and one more: a product with it finds a piece's number, where a division is slow.
     pub(crate) inverse: u32,
-    pub(crate) slots: Vec<Slot>,
-    pub(crate) rest: PlainWords,
     /// The first slot of the chain of those whose pieces are home.
     pub(crate) head: u16,
     /// How many pieces are home.
     pub(crate) home: u16,
+    pub(crate) slots: Vec<Slot>,
+    pub(crate) rest: PlainWords,
     /// The pages before and behind it in the ring of those of its size that have pieces.
     pub(crate) before: u32,
     pub(crate) behind: u32,
     pub(crate) ghost scaled: { inverse ≡ SCALE / size + 1 },
     pub(crate) ghost numbered: { kind ≡ size_number size },
-    pub(crate) ghost kinds: { kind < 51 },
+    pub(crate) ghost kinds: { kind < 35 },
     pub(crate) ghost few: { length slots.items < 2048 },
     pub(crate) ghost chained: { ∥ IsChain home head slots.items ∥₁ },
 }
@@ -236,7 +236,7 @@ impl Page {
 
     /// Whether two pieces or more are home.
     #[inline(always)]
-    pub(crate) fn is_ready(&self) -> bool
+    pub(crate) fn has_two(&self) -> bool
         ensures yes { result ≡ true → slot_at self.now self.now.head ≢ Out }
         ensures no { result ≡ false → ¬ HasTwoHome self.now }
     {

@@ -10,7 +10,7 @@ ghost use Rattle.live_heap.specs.Passes.{IsOf};
 ghost use Rattle.memory_cache.specs.declared.page.Page.{Page};
 ghost use Rattle.memory_cache.specs.declared.page.Slot.TheVariants.{Out};
 ghost use Rattle.memory_cache.specs.Caches.{kept_in};
-ghost use Rattle.memory_cache.specs.Paged.{ActsBehind, CameOf, GoesBehind, HasCut, HasNewPage, HasPieceReady, HasPut, HasSameOut, HasSamePages, HasTold, HasTwoReady, IsLastOut, IsOut, IsOutBy, IsPaged, IsReadyAt, IsWholeAt, LiesElsewhere, PopsAt, PushesAt, SamePages, TakesBack, page_at};
+ghost use Rattle.memory_cache.specs.Paged.{ActsBehind, CameOf, GoesBehind, HasCut, HasNewPage, HasPieceReady, HasPut, HasSameOut, HasSamePages, HasTold, HasTwoReady, IsIn, IsLastOut, IsOut, IsOutBy, IsPaged, IsReadyAt, IsWholeAt, LiesElsewhere, PopsAt, PushesAt, SamePages, TakesBack, page_at};
 ghost use Rattle.memory_cache.specs.Pages.{AllHome, HasTwoHome, IsOutAs, IsPageFor, IsPiece, slot_at};
 ghost use Rattle.memory_cache.specs.Rooms.{IsRoomOf};
 ghost use Rattle.memory_cache.specs.Settled.{IsSettled};
@@ -19,7 +19,7 @@ ghost use Rattle.memory_cache.specs.Sizes.{page_words, piece_words, size_number}
 use crate::cache::MemoryCache;
 use crate::page::{NONE, Page};
 use crate::piece::Piece;
-use crate::sizes::{SIZES, page_words, piece_words, size_number};
+use crate::sizes::{SIZES, page_words, piece_words, size_number, sized};
 use block_cache::cache::CacheRefused;
 use heap_geometry::limits::UNIT_WORDS;
 use live_heap::answers::AllocAnswer;
@@ -90,17 +90,52 @@ impl PagedCache {
         ensures new { (piece : Piece) → result ≡ Ok (AllocAnswer.Given piece) → (¬ HasPieceReady self.old (piece_words words))
             → HasNewPage heap.now self.old words tries piece.first self.new }
         ensures cause { IfOk result (λ told. CameOf heap.now self.old.cache.pass (page_words words) tries told self.new.cache.pass) }
-        ensures hits { HasPieceReady self.old (piece_words words) → self.new.hits ≡ min (self.old.hits + 1) (2 ^ 64 - 1) }
+        ensures hits { HasPieceReady self.old (piece_words words) → self.new.hits ≡ (self.old.hits + 1) % 2 ^ 64 }
         ensures no_hit { (¬ HasPieceReady self.old (piece_words words)) → self.new.hits ≡ self.old.hits }
     {
         match self.take_ready(heap, words) {
             Some(piece) => Ok(AllocAnswer::Given(piece)),
-            None => self.take_anew(heap, words, tries),
+            None => self.take_page(heap, words, tries),
         }
     }
 
-    /// What `take` gives of a page that is ready with two pieces or more, for who has a way of its own where none is: then
-    /// nothing has changed.
+    /// What `take_ready` gives of a page that has another piece behind it, by the shortest way: who gets none asks that next.
+    #[inline(always)]
+    pub fn take_spare(&mut self, heap: &Heap, words: u32) -> Option<Piece>
+        requires paged { IsPaged heap.now self.old }
+        requires words { words ≤ LARGE_MOST }
+        ensures paged { IsPaged heap.now self.new }
+        ensures told { IfSome result (λ piece. (tries : ℕ) → HasTold heap.now self.old words tries (Ok (AllocAnswer.Given piece)) self.new) }
+        ensures ready { IfSome result (λ _. HasPieceReady self.old (piece_words words)) }
+        ensures page { IfSome result (λ piece. IsIn self.old piece.first piece.size) }
+        ensures cache { self.new.cache ≡ self.old.cache }
+        ensures hits { IfSome result (λ _. self.new.hits ≡ (self.old.hits + 1) % 2 ^ 64) }
+        ensures serves { HasTwoReady self.old (piece_words words) → IsSome result }
+        ensures none { result ≡ None → self.new ≡ self.old }
+    {
+        let (size, number) = sized(words);
+        let place = self.ready[number] as usize;
+        if !self.has_two(place, size) {
+            return None;
+        }
+        let (piece, _) = pop_from(&mut self.pages[place]);
+        self.hits = self.hits.wrapping_add(1);
+        Some(piece)
+    }
+
+    /// Whether the page in this place of the table is ready with two pieces of this size, or more.
+    #[inline(always)]
+    fn has_two(&self, place: usize, size: u32) -> bool
+        ensures yes { result ≡ true → IsReadyAt self.now place size }
+        ensures no { result ≡ false → (page : Page) → page_at self.now place ≡ Some page → page.size ≡ size → ¬ HasTwoHome page }
+    {
+        match self.pages.get(place) {
+            Some(Some(page)) => page.size == size && page.has_two(),
+            _ => false,
+        }
+    }
+
+    /// What `take` gives of a page that is ready, for who has a way of its own where none is: then nothing has changed.
     #[inline(always)]
     pub fn take_ready(&mut self, heap: &Heap, words: u32) -> Option<Piece>
         requires paged { IsPaged heap.now self.old }
@@ -108,84 +143,52 @@ impl PagedCache {
         ensures paged { IsPaged heap.now self.new }
         ensures told { IfSome result (λ piece. (tries : ℕ) → HasTold heap.now self.old words tries (Ok (AllocAnswer.Given piece)) self.new) }
         ensures ready { IfSome result (λ _. HasPieceReady self.old (piece_words words)) }
+        ensures page { IfSome result (λ piece. IsIn self.old piece.first piece.size) }
         ensures cache { self.new.cache ≡ self.old.cache }
-        ensures hits { IfSome result (λ _. self.new.hits ≡ min (self.old.hits + 1) (2 ^ 64 - 1)) }
-        ensures serves { HasTwoReady self.old (piece_words words) → IsSome result }
+        ensures hits { IfSome result (λ _. self.new.hits ≡ (self.old.hits + 1) % 2 ^ 64) }
+        ensures serves { HasPieceReady self.old (piece_words words) → IsSome result }
         ensures none { result ≡ None → self.new ≡ self.old }
     {
-        let size = piece_words(words);
-        let place = self.ready[size_number(size)] as usize;
-        if !self.is_ready(place, size) {
+        let (size, number) = sized(words);
+        let key = self.ready[number];
+        if !self.is_ready(key as usize, size) {
             return None;
         }
-        let piece = pop_from(&mut self.pages[place]);
-        self.hits = self.hits.saturating_add(1);
+        let piece = self.pop_ready(key, number, size);
+        self.hits = self.hits.wrapping_add(1);
         Some(piece)
     }
 
-    /// Whether the page in this place of the table is ready with two pieces of this size, or more.
+    /// Whether the page in this place of the table is ready with pieces of this size.
     #[inline(always)]
     fn is_ready(&self, place: usize, size: u32) -> bool
         ensures yes { result ≡ true → IsReadyAt self.now place size }
-        ensures no { result ≡ false → (page : Page) → page_at self.now place ≡ Some page → page.size ≡ size → ¬ HasTwoHome page }
+        ensures no { result ≡ false → (page : Page) → page_at self.now place ≡ Some page → page.size ≡ size → slot_at page page.head ≡ Out }
     {
         match self.pages.get(place) {
-            Some(Some(page)) => page.size == size && page.is_ready(),
+            Some(Some(page)) => page.size == size && !page.has_none(),
             _ => false,
         }
     }
 
-    /// The same as `take`: where a page has its last piece, or a page is cut.
-    #[inline(never)]
-    fn take_anew(
-        &mut self,
-        heap: &Heap,
-        words: u32,
-        tries: u32,
-    ) -> Result<AllocAnswer<Piece>, AllocError>
-        requires paged { IsPaged heap.now self.old }
-        requires words { words ≤ LARGE_MOST }
-        requires tries { 0 < tries }
-        ensures told { HasTold heap.now self.old words tries result self.new }
-        ensures served { HasPieceReady self.old (piece_words words)
-            → ((piece : Piece) × (result ≡ Ok (AllocAnswer.Given piece))) × (self.new.cache ≡ self.old.cache) }
-        ensures new { (piece : Piece) → result ≡ Ok (AllocAnswer.Given piece) → (¬ HasPieceReady self.old (piece_words words))
-            → HasNewPage heap.now self.old words tries piece.first self.new }
-        ensures hits { HasPieceReady self.old (piece_words words) → self.new.hits ≡ min (self.old.hits + 1) (2 ^ 64 - 1) }
-        ensures no_hit { (¬ HasPieceReady self.old (piece_words words)) → self.new.hits ≡ self.old.hits }
-    {
-        let size = piece_words(words);
-        match self.serve(size) {
-            Some(piece) => {
-                self.hits = self.hits.saturating_add(1);
-                Ok(AllocAnswer::Given(piece))
-            }
-            None => self.take_page(heap, words, tries),
-        }
-    }
-
-    /// A piece of the page that is ready with pieces of this size.
-    fn serve(&mut self, size: u32) -> Option<Piece>
-        ensures given { IfSome result (λ piece. HasPut self.old piece self.new × (piece.size ≡ size)) }
-        ensures ready { IfSome result (λ _. HasPieceReady self.old size) }
-        ensures served { HasPieceReady self.old size → IsSome result }
+    /// A piece of the page in this place of the table, which is ready. One that has no other leaves its list.
+    #[inline(always)]
+    fn pop_ready(&mut self, key: u32, number: usize, _size: u32) -> Piece
+        requires ready { IsReadyAt self.old key _size }
+        requires number { number < 35 }
+        ensures put { HasPut self.old result self.new }
+        ensures size { result.size ≡ _size }
         ensures hits { self.new.hits ≡ self.old.hits }
-        ensures none { result ≡ None → HasSamePages self.old self.new }
     {
-        let number = size_number(size);
-        let key = self.ready[number];
-        let place = key as usize;
-        if place >= self.pages.len() {
-            return None;
-        }
-        let (piece, is_last) = pop_at(&mut self.pages[place], size)?;
+        let (piece, is_last) = pop_from(&mut self.pages[key as usize]);
         if is_last {
             self.unlink(key, number);
         }
-        Some(piece)
+        piece
     }
 
     /// A piece of a new page.
+    #[inline(never)]
     fn take_page(
         &mut self,
         heap: &Heap,
@@ -323,7 +326,7 @@ impl PagedCache {
     #[inline(never)]
     fn settle_page(&mut self, heap: &Heap, key: u32, number: usize, is_whole: bool, tries: u32)
         requires paged { IsPaged heap.now self.old }
-        requires number { number < 51 }
+        requires number { number < 35 }
         requires tries { 0 < tries }
         ensures same { HasSameOut heap.now self.old self.new }
         ensures behind { GoesBehind heap.now self.old key tries self.new }
@@ -435,7 +438,7 @@ impl PagedCache {
 
     /// Lays a page on top of the list of those that are ready with pieces of its size.
     fn link(&mut self, key: u32, number: usize)
-        requires { number < 51 }
+        requires { number < 35 }
         ensures same { HasSamePages self.old self.new }
         ensures hits { self.new.hits ≡ self.old.hits }
     {
@@ -447,8 +450,9 @@ impl PagedCache {
     }
 
     /// Takes a page out of that list.
+    #[inline(never)]
     fn unlink(&mut self, key: u32, number: usize)
-        requires { number < 51 }
+        requires { number < 35 }
         ensures same { HasSamePages self.old self.new }
         ensures hits { self.new.hits ≡ self.old.hits }
     {
@@ -487,7 +491,7 @@ impl PagedCache {
         }
     }
 
-    /// How many takes a page that was ready has served, at most 2^64 - 1.
+    /// How many takes a page that was ready has served, modulo 2^64.
     pub fn hits(&self) -> u64
         ensures { result ≡ self.now.hits }
     {
@@ -509,32 +513,15 @@ impl PagedCache {
     }
 }
 
-/// A piece of the page in this place of the table, which has one.
+/// A piece of the page in this place of the table, which has one; and whether none is home behind it.
 #[inline(always)]
-fn pop_from(place: &mut Option<Page>) -> Piece
+fn pop_from(place: &mut Option<Page>) -> (Piece, bool)
     requires { (page : Page) × (place.old ≡ Some page) × (slot_at page page.head ≢ Out) }
-    ensures { PopsAt place.old result place.new }
+    ensures { PopsAt place.old result.0 place.new }
 {
     let Some(page) = place else { unreachable!() };
-    page.pop_first()
-}
-
-/// A piece of the page in this place of the table, where its pieces are of this size; and whether none is home behind it.
-#[inline(always)]
-fn pop_at(place: &mut Option<Page>, size: u32) -> Option<(Piece, bool)>
-    ensures given { IfSome result (λ told. PopsAt place.old told.0 place.new × (told.0.size ≡ size)) }
-    ensures served { (page : Page) → place.old ≡ Some page → page.size ≡ size → slot_at page page.head ≢ Out → IsSome result }
-    ensures ready { IfSome result (λ _. (page : Page) × (place.old ≡ Some page) × (page.size ≡ size) × (slot_at page page.head ≢ Out)) }
-    ensures none { result ≡ None → SamePages place.old place.new }
-{
-    let Some(page) = place else {
-        return None;
-    };
-    if page.size != size {
-        return None;
-    }
-    let piece = page.pop()?;
-    Some((piece, page.has_none()))
+    let piece = page.pop_first();
+    (piece, page.has_none())
 }
 
 /// Takes the piece with this number of the page in this place of the table back. What follows for the page, where something
@@ -544,7 +531,7 @@ fn push_at(place: &mut Option<Page>, number: u16, piece: Piece) -> Option<(u32, 
     requires out { (page : Page) × (place.old ≡ Some page) × IsOutAs page number piece.first }
     ensures pushed { PushesAt place.old piece place.new }
     ensures key { IfSome result (λ told. (page : Page) × (place.old ≡ Some page) × (told.0 ≡ page.place / 2048) × (told.1 ≡ size_number page.size)) }
-    ensures number { IfSome result (λ told. told.1 < 51) }
+    ensures number { IfSome result (λ told. told.1 < 35) }
     ensures whole { (page : Page) → place.new ≡ Some page → AllHome page → IsSomeAnd result (λ told. told.2 ≡ true) }
 {
     let Some(page) = place else { unreachable!() };

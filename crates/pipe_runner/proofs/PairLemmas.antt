@@ -97,17 +97,17 @@ module _ (passed : ℕ → ℕ → Type 0) (h : HeapFields) (pipe : Pipe) (start
       ((all.0, all.1 ∙ (let long = length-append xs (w ∷ []) in omega (arith, long)), rest.0), rest.1, rest.2)
 
   pub new-sending :
-      (s : Sender) (p : Pass) (w : SenderThread) (n : ℕ) → pipe.shelves ≡ 8 → IsSender pipe s → s.number ≡ n → pushed_by s ≡ [] → s.pending ≡ None
-      → IsFresh h p → p.errand.caller ≡ n → w ≡ record { pass = p; end = s } → IsSending passed h pipe start 0 w
-  new-sending s p w n shelves is number pushed pending fresh caller same = subst (IsSending passed h pipe start 0) (sym same) (record {
+      (w : SenderThread) (n : ℕ) → pipe.shelves ≡ 8 → IsSender pipe w.end × (w.end.number ≡ n) × (pushed_by w.end ≡ []) × (w.end.pending ≡ None)
+      → IsFresh h w.pass × (w.pass.errand.caller ≡ n) → IsSending passed h pipe start 0 w
+  new-sending w n shelves (is, number, pushed, pending) (fresh, caller) = record {
     shelves = shelves;
     end = is;
     pending = pending;
     caller = caller ∙ sym number;
     pushed = ap length pushed;
-    calls = sends-none h start s.number (pushed_by s) p fresh pushed;
-    has = fresh-sent passed h pipe.senders start p fresh;
-  })
+    calls = sends-none h start w.end.number (pushed_by w.end) w.pass fresh pushed;
+    has = fresh-sent passed h pipe.senders start w.pass fresh;
+  }
 
   -- the passes and ends of senders, with one more of the next sender
   pub done-push :

@@ -33,7 +33,7 @@ pub(crate) fn pair_senders<G: Gate>(
 {
     while let Some(end) = ends.pop() {
         let pass = passes.pop().unwrap();
-        threads.push_reserved(SenderThread { pass, end });
+        threads.push_reserved(SenderThread::of(pass, end));
     }
 }
 
@@ -56,7 +56,7 @@ pub(crate) fn take_apart<G: Gate>(
     ensures room { vec_capacity passes.new ≡ vec_capacity passes.old }
 {
     while let Some(thread) = threads.pop() {
-        let SenderThread { pass, end } = thread;
+        let SenderThread { pass, end, rest: _ } = thread;
         passes.push_reserved(pass);
         ends.push_reserved(end);
     }

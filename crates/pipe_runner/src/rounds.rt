@@ -10,13 +10,14 @@ use block_pipe::pipe::Pipe;
 use edge_io::gate::Gate;
 use live_heap::heap::Heap;
 use std::sync::Wait;
-use std::thread::{Threads, join_mut};
+use std::thread::{Threads, join_mut, yield_now};
 
 /// How many messages a sender sends in a round.
 pub const PER_ROUND: u64 = 8;
 
 /// Each sender sends until it has sent so many, on a thread of its own, and the receiver receives beside them.
-/// This thread starts one sender after the other and then receives, so that it waits for few of them.
+/// This thread starts one sender after the other and then receives, so that it waits for few of them. It lets others go on
+/// before it waits: a sender that shares its processor then ends, and nobody has to wake this thread for it.
 #[cycle(beside)]
 fn send_beside<R: Threads + Wait + Sync, G: Gate + Sync>(
     rt: &R,
@@ -35,7 +36,11 @@ fn send_beside<R: Threads + Wait + Sync, G: Gate + Sync>(
     ensures receives { IsReceiving heap.now pipe.now receiver.new }
 {
     match senders.split_first_mut() {
-        None => receiver.receive_all(rt, pipe, heap),
+        None => {
+            receiver.receive_all(rt, pipe, heap);
+            yield_now();
+            receiver.receive_all(rt, pipe, heap);
+        }
         Some((first, others)) => {
             send_first(rt, pipe, heap, gate, start, until, first, others, receiver);
         }

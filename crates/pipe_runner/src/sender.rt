@@ -32,6 +32,8 @@ pub const MAX_MESSAGES: u32 = 100_000;
 pub struct SenderThread {
     pub(crate) pass: Pass,
     pub(crate) end: Sender,
+    /// What keeps it apart from what lies behind it in memory: another sender's, which its own thread writes.
+    pub(crate) rest: [u64; 16],
 }
 
 /// Pushes the note that is pending, if there is one, as often as the queue is found full.
@@ -91,6 +93,17 @@ fn first_of(start: u64, sender: u32, message: u64) -> u64
 }
 
 impl SenderThread {
+    /// A sender's thread works on these.
+    pub(crate) fn of(pass: Pass, end: Sender) -> SenderThread
+        ensures { (result.pass ≡ pass) × (result.end ≡ end) }
+    {
+        SenderThread {
+            pass,
+            end,
+            rest: [0; 16],
+        }
+    }
+
     /// Sends its next message, which passes the gate first.
     fn send_message<R: Wait, G: Gate>(
         &mut self,

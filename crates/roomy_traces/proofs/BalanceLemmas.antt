@@ -16,7 +16,8 @@ use Rattle.roomy_traces.proofs.RegisterLemmas.{own_by, words_held}
 use Rattle.roomy_traces.proofs.SerialRows.{IsPlainDeed, op-within, plain-deed}
 use Rattle.lane_outcomes.proofs.SlotRows.{Adds, row-adds}
 use Rattle.lane_outcomes.specs.Deeds as deed
-use Rattle.lane_outcomes.specs.Deeds.{Deed, deed_of, freed_by, given_by, register_of, registers_by}
+use Rattle.trace_text.specs.Operations.{register_of}
+use Rattle.lane_outcomes.specs.Deeds.{Deed, deed_of, freed_by, given_by, registers_by}
 use Rattle.lane_outcomes.specs.Cached.{CachedPosition, CachedRow}
 
 -- what the block in a register counts, if it holds one

@@ -15,7 +15,8 @@ use Rattle.lane_outcomes.specs.declared.registers.HeldBlock.{HeldBlock}
 use Rattle.lane_outcomes.specs.declared.outcome.Outcome.{Outcome}
 use Rattle.lane_outcomes.specs.declared.outcome.Outcome.TheVariants as outcome
 use Rattle.lane_outcomes.specs.Cached.{CachedBy, CachedPosition, CachedRow}
-use Rattle.lane_outcomes.specs.Deeds.{Deed, deed_of, freed_by, given_by, register_of, registers_by}
+use Rattle.trace_text.specs.Operations.{register_of}
+use Rattle.lane_outcomes.specs.Deeds.{Deed, deed_of, freed_by, given_by, registers_by}
 use Rattle.lane_outcomes.specs.Deeds as deed
 use Rattle.lane_outcomes.specs.Lane.{Position, held_in, writing}
 use Rattle.lane_outcomes.specs.LaneCounts.{as_one, count_with}

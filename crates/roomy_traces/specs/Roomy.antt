@@ -10,7 +10,7 @@ use Rattle.trace_text.specs.declared.limits.TheConstants.{REGISTERS}
 use Rattle.trace_text.specs.declared.trace.Op.{Op}
 use Rattle.trace_text.specs.declared.trace.Op.TheVariants.{Alloc, Free, Fill, Check, Put, Take, Resize}
 use Rattle.trace_text.specs.declared.trace.Trace.{Trace}
-use Rattle.lane_outcomes.specs.Deeds.{register_of}
+use Rattle.trace_text.specs.Operations.{register_of}
 use Rattle.lane_outcomes.specs.LaneCounts.{as_one, count_with}
 
 -- a block that a lane holds: the need that it serves, and the number in each of its usable words

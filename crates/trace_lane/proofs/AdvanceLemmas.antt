@@ -12,7 +12,6 @@ use Rattle.sound_state.specs.Runs.{Move}
 use Rattle.trace_lane.specs.Begun.{calls_of}
 use Rattle.trace_lane.specs.Advances.{StaysInCall, BeganAtMost, LaneGoesOn}
 use Rattle.trace_lane.specs.Paths.{IsBy, MovesLead}
-use Rattle.trace_lane.specs.declared.stage.OperationStage.TheVariants as stage
 use Rattle.errand_steps.specs.Steps.{State}
 use Rattle.heap_geometry.specs.Need.{need_of}
 use Rattle.lane_outcomes.proofs.NeedLemmas.{need-fits}
@@ -50,17 +49,17 @@ OnScriptWith operations s t old new more = (calls : List Call) → IsLaneOn s op
 
 -- less is left of the lane's script
 abbrev pub Falls : {B : Type 0} → List Op → LaneState B → LaneState B → Type 0
-Falls operations old new = script_left operations new.outcomes.items new.stage < script_left operations old.outcomes.items old.stage
+Falls operations old new = script_left operations new.outcomes.items new.work < script_left operations old.outcomes.items old.work
 
 -- the operation stays where it is
 abbrev pub Stays : LaneState Grip → LaneState Grip → Type 0
-Stays old new = (new.outcomes.items ≡ old.outcomes.items) × (new.stage ≡ old.stage)
+Stays old new = (new.outcomes.items ≡ old.outcomes.items) × (new.work ≡ old.work)
 
 stays-left :
     (operations : List Op) (old new : LaneState Grip) → Stays old new
-    → script_left operations new.outcomes.items new.stage ≡ script_left operations old.outcomes.items old.stage
+    → script_left operations new.outcomes.items new.work ≡ script_left operations old.outcomes.items old.work
 stays-left operations old new stays =
-    ap (λ results. script_left operations results new.stage) stays.0 ∙ ap (λ at. script_left operations old.outcomes.items at) stays.1
+    ap (λ results. script_left operations results new.work) stays.0 ∙ ap (λ at. script_left operations old.outcomes.items at) stays.1
 
 -- an advance in which nothing happens
 pub advance-none : (s : CoreFields) (caller : ℕ) (operations : List Op) (p : LaneState Grip) → HasAdvanced s s caller operations p p false
@@ -230,7 +229,7 @@ module _ (s t : CoreFields) (lane after : LaneState Grip) where
 
   -- an operation begins, or has its outcome at once
   pub part-begins :
-      (ready : List Event → ErrandFields → List Op → List Call → LaneState Grip → Type 0) → LaneGoesOn ready s t lane after → lane.stage ≡ stage.Between
+      (ready : List Event → ErrandFields → List Op → List Call → LaneState Grip → Type 0) → LaneGoesOn ready s t lane after → lane.work ≡ None
       → (seen : List Event) (e : ErrandFields) (operations : List Op) (some : List Call) → ready seen e operations some lane
       → ((calls : List Call) → IsLaneOn s operations lane calls → ready seen e operations calls lane)
       → HasAdvanced s t lane.caller operations lane after false
@@ -242,9 +241,9 @@ module _ (s t : CoreFields) (lane after : LaneState Grip) where
       (elim gone.falls [
         | inl falls ↦ inl falls
         | inr stays ↦
-            let none : begun_count lane.outcomes.items stage.Between ≡ length lane.outcomes.items = omega arith in
-            let same : begun_count after.outcomes.items after.stage ≡ length lane.outcomes.items =
-            ap (λ os. begun_count os after.stage) stays.0 ∙ ap (λ at. begun_count lane.outcomes.items at) (stays.1 ∙ between) ∙ none in
+            let none : begun_count {B = Grip} lane.outcomes.items None ≡ length lane.outcomes.items = omega arith in
+            let same : begun_count after.outcomes.items after.work ≡ length lane.outcomes.items =
+            ap (λ os. begun_count os after.work) stays.0 ∙ ap (λ at. begun_count lane.outcomes.items at) (stays.1 ∙ between) ∙ none in
             let more : length lane.outcomes.items + 1 ≡ length lane.outcomes.items = sym gone.count ∙ same in absurd (omega (arith, more))
       ])
 

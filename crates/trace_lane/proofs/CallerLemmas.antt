@@ -1,8 +1,8 @@
 -- What the whole calls of a caller add to its events, and what they leave it.
-use Rattle.std.proofs.Common.{ℕ, Some, zero, suc, true, false, ◌≡◌, ◌≢◌, ◌<◌, ◌∷◌, ◌++◌, List, [], refl, sym, ap, ◌∙◌, subst, arith, append_assoc, append-nil}
-use Rattle.trace_lane.proofs.Common.{Geometry, Need, Event, Ended, EventsOf, IsLegal, IsBusy, IsIdle, Call, ErrandFields, Progress, Reply, Ending, HasEnded, LeadsBy, Made}
+use Rattle.std.proofs.Common.{ℕ, Some, zero, suc, true, false, ◌≡◌, ◌≢◌, ◌∷◌, ◌++◌, List, [], refl, sym, ap, ◌∙◌, subst, arith, append_assoc, append-nil}
+use Rattle.trace_lane.proofs.Common.{Geometry, Need, Event, Ended, EventsOf, IsBusy, IsIdle, Call, ErrandFields, Progress, Reply, Ending, HasEnded, LeadsBy, Made}
 use Rattle.trace_lane.proofs.Common.{IsUnderWay, HasSeenMore, IsMoment, HasStepped, KeepBlocks, AnswersCall, OwnsAfter, Hands, LeavesPlace, EndsCall, IsIn, Caller}
-use Rattle.trace_lane.proofs.Common.{FitsCall, IsAtRest, IsCall, MadeBy, OwnsFor, alloc_answer, alloc, free, write, read, put, take, begun_by, usable_words, own}
+use Rattle.trace_lane.proofs.Common.{FitsCall, IsAtRest, IsCall, MadeBy, OwnsFor, alloc_answer, alloc, free, write, read, put, take, begun_by, own}
 use Rattle.trace_lane.proofs.Common.{own-append, ended_as, done-told, spent-begins, event_of, with_event, begun_at, at_once, by_steps, owns-on}
 use Rattle.pool_model.specs.Calls as ended
 use Rattle.errand_steps.specs.declared.reply.Begun.{Begun}
@@ -14,9 +14,8 @@ use Rattle.errand_steps.specs.declared.told.Stepped.TheVariants as stepped
 use Rattle.sound_laws.proofs.events_lemmas.BeginsLemmas.{too_large-stays}
 use Rattle.step_machine.proofs.MomentAnswers.{moment-given, moment-got}
 use Rattle.lane_engine.specs.Callers.{StepsOn}
-use Rattle.trace_lane.proofs.AnswerLemmas.{HasBegun, HasMovedOn, MayCall, ends-full, ends-given, ends-not, behind, call-begun, goes-on as call-goes_on, has-ended, heap-block, moved-on, settled-of}
+use Rattle.trace_lane.proofs.AnswerLemmas.{HasBegun, HasMovedOn, MayCall, ends-full, ends-given, ends-not, behind, call-begun, goes-on as call-goes_on, has-ended, moved-on, settled-of}
 use Rattle.step_machine.proofs.ApartLemmas.{ended-spares, given-apart, got-apart}
-use Rattle.trace_lane.proofs.NeedLemmas.{need-some}
 
 -- a step of a caller is one from where it stood earlier, whatever others did in between
 pub moment-from :
@@ -197,17 +196,12 @@ ends-called g c d call answer rests owned ends =
     }
 
 -- what a call that ends answers a lane
-module _ {B : Type 0} (place_of : B → ℕ) (block_need : B → Need) (g : Geometry) (e f : ErrandFields) (before after added : List Event)
-    (legal : IsLegal g after) where
+module _ {B : Type 0} (place_of : B → ℕ) (block_need : B → Need) (e f : ErrandFields) (before after added : List Event) where
   pub answers-so :
       (call : Call) (ended : Ending B) → FitsCall call → IsUnderWay e.caller call e.point added
       → HasStepped place_of block_need e f before after (stepped.Done ended) → AnswersCall place_of block_need call ended
   answers-so (alloc words) (ending.Given b) fits way step =
-      let told = ends-given e f before after added words (place_of b) (block_need b) step.moment way in (
-        told.serves,
-        subst (λ n. 0 < usable_words n) told.serves
-            (need-some g (place_of b) (block_need b) (heap-block g after e.caller (place_of b) (block_need b) legal told.owned)),
-      )
+      (ends-given e f before after added words (place_of b) (block_need b) step.moment way).serves
   answers-so (alloc words) ending.Refused fits way step = tt
   answers-so (alloc words) ending.Spent fits way step = tt
   answers-so (free place need) ending.Freed fits way step = tt

@@ -25,7 +25,8 @@ pub use Rattle.lane_engine.specs.Told.{HasStepped}
 pub use Rattle.lane_engine.specs.Whole.{KeepBlocks, Maker}
 pub use Rattle.lane_engine.specs.declared.begins.NextCall.{NextCall}
 pub use Rattle.lane_engine.specs.declared.grip.Grip.{Grip}
-pub use Rattle.lane_outcomes.specs.Deeds.{Deed, deed_of, register_of}
+pub use Rattle.trace_text.specs.Operations.{register_of}
+pub use Rattle.lane_outcomes.specs.Deeds.{Deed, deed_of}
 pub use Rattle.lane_outcomes.specs.Fits.{Walks}
 pub use Rattle.lane_outcomes.specs.Lane.{Position, filling, held_in, position_after, registers_after, writing}
 pub use Rattle.lane_outcomes.specs.Rows.{FitsRow, IsFullShelf, IsSpent, IsWord, MayAsk, Moment, Setting}
@@ -65,16 +66,17 @@ pub use Rattle.step_machine.proofs.SpareLemmas.{take-none}
 pub use Rattle.step_machine.specs.Cores.{CoreFields, OwnsAfter, errand_at}
 pub use Rattle.step_machine.specs.Keeping.{Hands, LeavesPlace}
 pub use Rattle.step_machine.specs.Moments.{HasSeenMore, IsMoment, IsServed}
-pub use Rattle.trace_lane.specs.Advances.{AdvancesOn, AnswersCall, ComesTo, HasAdvanced, HasAnswered, HasBegun, HasGoneOn, IsAgain, IsAtHand, IsShort, behind, word_behind}
-pub use Rattle.trace_lane.specs.Doing.{AllMadeFor, DoingIn, IsMaking}
+pub use Rattle.trace_lane.specs.Advances.{AdvancesOn, ComesTo, HasAdvanced, HasAnswered, HasBegun, HasGoneOn, IsAgain, IsAtHand}
+pub use Rattle.trace_lane.specs.Doing.{AllMadeFor, DoingIn, DoingOf, IsMaking}
 pub use Rattle.trace_lane.specs.Lanes.{IsLane, StandsBy}
-pub use Rattle.trace_lane.specs.Made.{AllMade, AreMisses, DoingOf, HasRun, HoldsBlocks, MadeFor, Makes, OnBlock, call_at, calls_in, calls_made, fills, frees, held_there}
-pub use Rattle.trace_lane.specs.Made.{reads, registers_from}
-pub use Rattle.trace_lane.specs.Paths.{FirstPassed, begun_count, held_blocks, held_by, stage_begun}
-pub use Rattle.trace_lane.specs.Scripts.{Scripts, begun_bound, script_left}
-pub use Rattle.trace_lane.specs.States.{IsLaneOf, IsLaneOn, registers_at}
+pub use Rattle.trace_lane.specs.Made.{AllMade, HasRun, HoldsBlocks, MadeFor, Makes, OnBlock, calls_in, calls_made, held_there, registers_from}
+pub use Rattle.trace_lane.specs.Paths.{FirstPassed, held_blocks, held_by}
+pub use Rattle.trace_lane.specs.Requests.{AreMisses}
+pub use Rattle.trace_lane.specs.Scripts.{Scripts, begun_bound, begun_count, script_left}
+pub use Rattle.trace_lane.specs.States.{IsLaneOf, IsLaneOn, registers_at, work_at}
+pub use Rattle.trace_lane.specs.Works.{AnswersCall, call_in, work_begun}
 pub use Rattle.trace_lane.specs.declared.lane.LaneState.{LaneState}
-pub use Rattle.trace_lane.specs.declared.stage.OperationStage.{OperationStage}
+pub use Rattle.trace_lane.specs.declared.work.Work.{Work}
 pub use Rattle.trace_text.specs.Traces.{IsOp}
 pub use Rattle.trace_text.specs.declared.limits.TheConstants.{REGISTERS}
 pub use Rattle.trace_text.specs.declared.trace.Op.{Op}

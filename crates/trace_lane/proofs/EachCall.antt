@@ -1,6 +1,6 @@
 -- What holds of each of some whole calls.
-use Rattle.std.proofs.Common.{ℕ, suc, ◌%◌, ◌+◌, ◌^◌, ◌∷◌, ◌++◌, List, [], length, map, sym, subst, inl, inr}
-use Rattle.trace_lane.proofs.Common.{Need, Reply, Call, LeavesPlace, AreMisses, Made, read, take, write, cases_lt, flat_map, range_with_len, copied_word, answered}
+use Rattle.std.proofs.Common.{ℕ, suc, ◌≡◌, ◌%◌, ◌+◌, ◌^◌, ◌∷◌, ◌++◌, List, [], Option, length, map, sym, subst, inl, inr}
+use Rattle.trace_lane.proofs.Common.{Need, Reply, Call, LeavesPlace, AreMisses, KeepBlocks, LeadsBy, HeldBlock, HoldsBlocks, Made, read, take, write, cases_lt, flat_map, range_with_len, copied_word, answered}
 use Rattle.trace_lane.proofs.Common.{found_from, wrote, copied-read, copied-past}
 use Rattle.errand_steps.specs.declared.reply.Reply.TheVariants as reply
 
@@ -77,3 +77,24 @@ Leaves place call = LeavesPlace call place
 
 pub leaves : (place : ℕ) → IsOnWords (Leaves place)
 leaves place = record { writes = λ at need i value. tt; reads = λ at need i. tt; takes = λ shelf. tt }
+
+pub light-by : (made calls : List Made) → made ≡ calls → AllCalls IsLight calls → AllCalls IsLight made
+light-by made calls is all = subst (AllCalls IsLight) (sym is) all
+
+-- a caller keeps its block through calls that leave it
+pub leads-keep :
+    {S : Type 0} {called : S → Call → Reply → S → Type 0} {owns : S → ℕ → Need → Type 0} (laws : KeepBlocks called owns) (s t : S) (made : List Made)
+    (place : ℕ) (need : Need) → LeadsBy called s made t → AllCalls (Leaves place) made → owns s place need → owns t place need
+leads-keep {owns = owns} laws s t [] place need leads leave owned = subst (λ x. owns x place need) (sym leads) owned
+leads-keep laws s t (m ∷ made) place need (u, one, leads) leave owned =
+    leads-keep laws u t made place need leads leave.1 (laws.keeps s u m.call m.answer place need one leave.0 owned)
+
+abbrev pub held_place : HeldBlock → ℕ
+held_place held = held.place
+
+abbrev pub held_need : HeldBlock → Need
+held_need held = held.need
+
+-- the registers hold blocks of the caller's, and no two the same one
+abbrev pub HoldsAll : {S : Type 0} → (S → ℕ → Need → Type 0) → S → List (Option HeldBlock) → Type 0
+HoldsAll owns c registers = HoldsBlocks held_place held_need (owns c) registers

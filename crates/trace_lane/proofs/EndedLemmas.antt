@@ -1,10 +1,9 @@
 -- A lane before its first operation, one beside others, and one that has all outcomes.
 use Rattle.std.proofs.Common.{ℕ, ◌≡◌, ◌++◌, List, [], Option, Some, None, length, refl, sym, ap, ◌∙◌, subst, arith, append_assoc, append-nil}
 use Rattle.trace_lane.proofs.Common.{Geometry, Event, IsIdle, Call, LeadsBy, Made, HasSeenMore, IsServed, REGISTERS, Op, Caller, IsAtRest, IsCall, HeldBlock, Outcome}
-use Rattle.trace_lane.proofs.Common.{LaneState, OperationStage, AllMadeFor, IsMaking, IsLane, StandsBy, ErrandFields, Engine, Scripts, IsLaneOf, length-replicate}
-use Rattle.trace_lane.proofs.Common.{new_caller, own, own-append, same-seen, calls_in, calls_made, registers_from, registers_at}
+use Rattle.trace_lane.proofs.Common.{LaneState, Work, AllMadeFor, IsMaking, IsLane, StandsBy, ErrandFields, Engine, Scripts, IsLaneOf, length-replicate}
+use Rattle.trace_lane.proofs.Common.{new_caller, own, own-append, same-seen, calls_in, calls_made, registers_from, registers_at, work_at}
 use Rattle.errand_steps.specs.Errands.{open_errand}
-use Rattle.trace_lane.specs.declared.stage.OperationStage.TheVariants as stage
 use Rattle.trace_lane.specs.States.{IsNew}
 use Rattle.trace_lane.proofs.CallerLemmas.{Owns, leads-first}
 use Rattle.trace_lane.proofs.MakingLemmas.{empty, making-between}
@@ -12,14 +11,14 @@ use Rattle.trace_lane.proofs.OwnLemmas.{blocks-none, empty-holds}
 use Rattle.trace_lane.proofs.ScriptLemmas.{caller-script}
 
 -- a lane has made nothing before its first operation
-pub making-none : (operations : List Op) → IsMaking operations empty [] stage.Between [] None
+pub making-none : (operations : List Op) → IsMaking operations empty [] None [] None
 making-none operations =
     record { within = omega arith; past = []; present = []; all = refl; ended = refl; doing = (refl, refl, refl) }
 
 -- a lane stands before its first operation, where nothing has happened
 pub lane-start :
     (g : Geometry) (caller : ℕ) (events : List Event) (e : ErrandFields) (operations : List Op) → e ≡ open_errand caller g → events ≡ []
-    → IsServed g caller e events → IsLane g caller events e operations empty [] stage.Between []
+    → IsServed g caller e events → IsLane g caller events e operations empty [] None []
 lane-start g caller events e operations opened none served =
     let first_served : IsServed g caller (open_errand caller g) [] =
     subst (λ h. IsServed g caller (open_errand caller g) h) none (subst (λ f. IsServed g caller f events) opened served) in
@@ -50,9 +49,9 @@ lane-new {B = B} engine operations lane new opened none served =
     let stands = lane-start g lane.caller engine.events engine.errand operations opened none served in
     record {
       stands =
-          subst (λ rs. IsLane g lane.caller engine.events engine.errand operations rs lane.outcomes.items lane.stage []) (sym is_empty)
-          (subst (λ os. IsLane g lane.caller engine.events engine.errand operations empty os lane.stage []) (sym new.none)
-          (subst (λ at. IsLane g lane.caller engine.events engine.errand operations empty [] at []) (sym new.between) stands));
+          subst (λ rs. IsLane g lane.caller engine.events engine.errand operations rs lane.outcomes.items (work_at engine lane.work) []) (sym is_empty)
+          (subst (λ os. IsLane g lane.caller engine.events engine.errand operations empty os (work_at engine lane.work) []) (sym new.none)
+          (subst (λ at. IsLane g lane.caller engine.events engine.errand operations empty [] (work_at engine at) []) (sym new.between) stands));
       size = ap length new.empty ∙ length-replicate {A = Option B} REGISTERS None;
       room = new.room;
     }
@@ -68,7 +67,7 @@ seen-then caller a b c h k = record {
 -- a lane stands as it stood, whatever others did
 pub lane-beside :
     (g : Geometry) (caller : ℕ) (before after : List Event) (e : ErrandFields) (operations : List Op) (registers : List (Option HeldBlock))
-    (results : List Outcome) (at : OperationStage) (calls : List Call) → IsLane g caller before e operations registers results at calls
+    (results : List Outcome) (at : Option (Work HeldBlock)) (calls : List Call) → IsLane g caller before e operations registers results at calls
     → HasSeenMore caller before after → IsLane g caller after e operations registers results at calls
 lane-beside g caller before after e operations registers results at calls lane more =
     record {
@@ -87,7 +86,7 @@ pub lane_of-beside :
 lane_of-beside engine after operations lane calls is more = record {
   stands =
       lane-beside engine.geometry lane.caller engine.events after engine.errand operations (registers_at engine lane.registers.items) lane.outcomes.items
-      lane.stage calls is.stands more;
+      (work_at engine lane.work) calls is.stands more;
   size = is.size;
   room = is.room;
 }
@@ -105,7 +104,7 @@ pub record IsResting (g : Geometry) (caller : ℕ) (events : List Event) (e : Er
   pub others : HasSeenMore caller sight events
 
 module _ {g : Geometry} {caller : ℕ} {events : List Event} {e : ErrandFields} {operations : List Op} {registers : List (Option HeldBlock)}
-    {results : List Outcome} {at : OperationStage} {calls : List Call} (lane : IsLane g caller events e operations registers results at calls) where
+    {results : List Outcome} {at : Option (Work HeldBlock)} {calls : List Call} (lane : IsLane g caller events e operations registers results at calls) where
   resting-by :
       (under : Option Call) → under ≡ None → calls ≡ calls_made lane.made ++ calls_in under
       → StandsBy g caller lane.made under (record { errand = e; seen = lane.sight }) → registers ≡ registers_from empty operations results
@@ -122,7 +121,7 @@ module _ {g : Geometry} {caller : ℕ} {events : List Event} {e : ErrandFields} 
   }
   resting-by (Some call) is are so registers_are all = absurd (cc)
 
-  pub lane-resting : at ≡ stage.Between → IsResting g caller events e operations registers results calls
+  pub lane-resting : at ≡ None → IsResting g caller events e operations registers results calls
   lane-resting between =
       let m = making-between operations registers results at lane.made lane.under between lane.making in
       resting-by lane.under m.2 lane.begun lane.stands m.0 m.1
@@ -130,7 +129,7 @@ module _ {g : Geometry} {caller : ℕ} {events : List Event} {e : ErrandFields} 
 -- the calls of a lane that rests are those of its operations with their outcomes
 pub lane-script :
     {g : Geometry} {caller : ℕ} {events : List Event} {e : ErrandFields} {operations : List Op} {registers : List (Option HeldBlock)}
-    {results : List Outcome} {calls : List Call} → IsLane g caller events e operations registers results stage.Between calls
+    {results : List Outcome} {calls : List Call} → IsLane g caller events e operations registers results None calls
     → Scripts empty operations results calls
 lane-script {g = g} {caller = caller} {e = e} {operations = operations} {results = results} lane =
     let r = lane-resting lane refl in

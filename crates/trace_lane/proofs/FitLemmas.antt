@@ -1,7 +1,7 @@
 -- The outcomes of a lane so far fit the events that are seen.
 use Rattle.std.proofs.Common.{ℕ, true, ◌≡◌, ◌<◌, ◌≤◌, ◌∷◌, ◌++◌, List, [], Option, Some, None, length, take, refl, sym, ap, ◌∙◌, subst, arith, append_assoc, append-nil}
 use Rattle.trace_lane.proofs.Common.{Geometry, Event, Call, ErrandFields, Reply, LeadsBy, Made, Op, Caller, IsAtRest, IsCall, MadeBy, OwnsFor, HeldBlock, Outcome, Setting}
-use Rattle.trace_lane.proofs.Common.{OperationStage, AllMadeFor, IsLane, StandsBy, Walks, Position, at_once, by_steps, new_caller, true≢false, slice_index_or, own}
+use Rattle.trace_lane.proofs.Common.{Work, AllMadeFor, IsLane, StandsBy, Walks, Position, at_once, by_steps, new_caller, true≢false, slice_index_or, own}
 use Rattle.trace_lane.proofs.Common.{own-append, setting_in, leads-split, position_after}
 use Rattle.std.proofs.lemmas.List.{take_all}
 use Rattle.lane_outcomes.specs.declared.outcome.Outcome.TheVariants as outcome
@@ -9,7 +9,6 @@ use Rattle.lane_outcomes.specs.Fits.{Fits}
 use Rattle.lane_outcomes.specs.Lane.{start}
 use Rattle.lane_outcomes.proofs.FitLemmas.{walks-later}
 use Rattle.lane_outcomes.proofs.SpentLemmas.{told-spent}
-use Rattle.trace_lane.specs.declared.stage.OperationStage.TheVariants as stage
 use Rattle.trace_lane.proofs.AnswerLemmas.{HasMovedOn}
 use Rattle.trace_lane.proofs.CallerLemmas.{Owns, ends-called, in-begun, in-way, leads-first, leads-rest, moved-none, moved-then}
 use Rattle.trace_lane.proofs.EndedLemmas.{lane-resting}
@@ -125,14 +124,14 @@ pub record HasEndedSo (g : Geometry) (caller : ℕ) (events : List Event) (e : E
   pub turns : come.walked.end.spent ≡ true → e.turns ≡ g.turn_limit
 
 module _ {g : Geometry} {caller : ℕ} {events : List Event} {e : ErrandFields} {operations : List Op} {registers : List (Option HeldBlock)}
-    {results : List Outcome} {at : OperationStage} {calls : List Call} (lane : IsLane g caller events e operations registers results at calls) where
+    {results : List Outcome} {at : Option (Work HeldBlock)} {calls : List Call} (lane : IsLane g caller events e operations registers results at calls) where
   pub lane-come : HasCome g caller events e operations results
   lane-come =
       let m = lane.making in
       stands-come g caller events e operations results m.past m.present lane.under lane.sight lane.more.more lane.more.seen m.ended
       (subst (λ ms. StandsBy g caller ms lane.under (record { errand = e; seen = lane.sight })) m.all lane.stands)
 
-  lane-ended : at ≡ stage.Between → HasEndedSo g caller events e operations results
+  lane-ended : at ≡ None → HasEndedSo g caller events e operations results
   lane-ended between =
       let r = lane-resting lane between in
       let now : Caller = record { errand = e; seen = r.sight } in
@@ -160,7 +159,7 @@ module _ {g : Geometry} {caller : ℕ} {events : List Event} {e : ErrandFields} 
 
   -- the outcomes of a lane that has all of them fit
   pub lane-fits :
-      (lost : ℕ) → at ≡ stage.Between → length results ≡ length operations → e.lost ≤ lost
+      (lost : ℕ) → at ≡ None → length results ≡ length operations → e.lost ≤ lost
       → Fits (setting_in events caller g.turn_limit lost) operations results
   lane-fits lost between whole more =
       let ended = lane-ended between in
@@ -173,7 +172,7 @@ module _ {g : Geometry} {caller : ℕ} {events : List Event} {e : ErrandFields} 
       }
 
   -- a lane that was told to have no turn left has taken them all
-  pub lane-spent : (k : ℕ) → at ≡ stage.Between → k < length results → slice_index_or results k outcome.Spent ≡ outcome.Spent → e.turns ≡ g.turn_limit
+  pub lane-spent : (k : ℕ) → at ≡ None → k < length results → slice_index_or results k outcome.Spent ≡ outcome.Spent → e.turns ≡ g.turn_limit
   lane-spent k between below is =
       let ended = lane-ended between in
       let w = ended.come.walked in

@@ -9,21 +9,9 @@ use Rattle.heap_geometry.specs.Need.{need_of}
 use Rattle.errand_steps.specs.declared.reply.Reply.TheVariants as reply
 use Rattle.lane_outcomes.specs.Deeds.{registers_by}
 use Rattle.lane_outcomes.specs.Deeds as deed
-use Rattle.trace_lane.specs.declared.stage.OperationStage.TheVariants as stage
-use Rattle.trace_lane.specs.Made.{MayMake}
-use Rattle.trace_lane.proofs.DoingLemmas.{GivesAway, HandlesBy, HandsOut, made-handles}
-use Rattle.trace_lane.proofs.EachCall.{AllCalls, IsLight, Leaves, all-light, leaves}
+use Rattle.trace_lane.proofs.OperationLemmas.{GivesAway, HandlesBy, HandsOut, made-handles}
+use Rattle.trace_lane.proofs.EachCall.{AllCalls, HoldsAll, held_need, held_place, leads-keep, IsLight, Leaves, all-light, leaves}
 use Rattle.trace_lane.proofs.PartLemmas.{blocks-size, slot-full, slot-held}
-
-abbrev pub held_place : HeldBlock → ℕ
-held_place held = held.place
-
-abbrev pub held_need : HeldBlock → Need
-held_need held = held.need
-
--- the registers hold blocks of the caller's, and no two the same one
-abbrev pub HoldsAll : {S : Type 0} → (S → ℕ → Need → Type 0) → S → List (Option HeldBlock) → Type 0
-HoldsAll owns c registers = HoldsBlocks held_place held_need (owns c) registers
 
 -- a register that was set holds what it was set to, and the others what they held
 set-here :
@@ -94,22 +82,15 @@ module _ (owns after : ℕ → Need → Type 0) (registers : List (Option HeldBl
   }
 
 module _ {S : Type 0} {called : S → Call → Reply → S → Type 0} {owns : S → ℕ → Need → Type 0} (laws : KeepBlocks called owns) where
-  -- the caller keeps its block through calls
-  pub leads-keep :
-      (s t : S) (made : List Made) (place : ℕ) (need : Need) → LeadsBy called s made t → AllCalls (Leaves place) made → owns s place need → owns t place need
-  leads-keep s t [] place need leads leave owned = subst (λ x. owns x place need) (sym leads) owned
-  leads-keep s t (m ∷ made) place need (u, one, leads) leave owned =
-      leads-keep u t made place need leads leave.1 (laws.keeps s u m.call m.answer place need one leave.0 owned)
-
   module _ (c d : S) (registers : List (Option HeldBlock)) (holds : HoldsAll owns c registers) where
     still : (made : List Made) → LeadsBy called c made d → ((place : ℕ) → AllCalls (Leaves place) made) → HoldsAll owns d registers
-    still made leads leave = holds-still (owns c) (owns d) registers holds (λ place need. leads-keep c d made place need leads (leave place))
+    still made leads leave = holds-still (owns c) (owns d) registers holds (λ place need. leads-keep laws c d made place need leads (leave place))
 
     emptied : (r : ℕ) (slot : Option HeldBlock) (made : List Made) → held_in registers r ≡ slot → GivesAway slot made → LeadsBy called c made d
         → HoldsAll owns d (slice_set registers r None)
     emptied r slot made is (held, full, call, answer, calls, leave) leads =
         holds-emptied (owns c) (owns d) registers holds r held (is ∙ full)
-        (λ place need differ. leads-keep c d (answered call answer ∷ []) place need (subst (λ ms. LeadsBy called c ms d) calls leads) (leave place differ, tt))
+        (λ place need differ. leads-keep laws c d (answered call answer ∷ []) place need (subst (λ ms. LeadsBy called c ms d) calls leads) (leave place differ, tt))
 
     handed :
         (r : ℕ) (held : HeldBlock) (made : List Made) → HandsOut held.place held.need made → LeadsBy called c made d
@@ -118,8 +99,8 @@ module _ {S : Type 0} {called : S → Call → Reply → S → Type 0} {owns : S
         let parts = leads-split called c d first (answered call answer ∷ rest) (subst (λ ms. LeadsBy called c ms d) calls leads) in
         let t = parts.0 in
         let (u, one, more) = parts.2 in
-        let before = λ (place : ℕ) (n : Need). leads-keep c t first place n parts.1 (all-light (leaves place) first light_first) in
-        let later = λ (place : ℕ) (n : Need). leads-keep u d rest place n more (all-light (leaves place) rest light_rest) in
+        let before = λ (place : ℕ) (n : Need). leads-keep laws c t first place n parts.1 (all-light (leaves place) first light_first) in
+        let later = λ (place : ℕ) (n : Need). leads-keep laws u d rest place n more (all-light (leaves place) rest light_rest) in
         holds-filled (owns c) (owns d) registers holds r held
         (λ place n owned. later place n (laws.keeps t u call answer place n one (leave place) (before place n owned)))
         (later held.place held.need (laws.hands t u call answer held.place held.need one hands))
@@ -139,7 +120,7 @@ module _ {S : Type 0} {called : S → Call → Reply → S → Type 0} {owns : S
         let apart = λ (other : ℕ) (had : Need). laws.apart c t (alloc need) answer new.place other new.need had one (refl, refl) in
         let later = λ (place : ℕ) (n : Need) (differ : place ≢ old.place) (owned : owns t place n).
         laws.keeps u d release reply.Freed place n freed differ
-        (leads-keep t u copies place n parts.1 (all-light (leaves place) copies light_copies) owned) in
+        (leads-keep laws t u copies place n parts.1 (all-light (leaves place) copies light_copies) owned) in
         let differ : new.place ≢ old.place = λ e. apart old.place old.need (holds.owned r old full) (sym e) in
         let gone = holds-emptied (owns c) (owns d) registers holds r old full
         (λ place n not owned. later place n not (laws.keeps c t (alloc need) answer place n one tt owned)) in
@@ -223,39 +204,27 @@ module _ {B : Type 0} (place_of : B → ℕ) (need_of_block : B → Need) (owns 
         (slot-full place_of need_of_block blocks q other are);
   }
 
--- what the code leaves of a lane that it gives an outcome
-pub record IsFinished {B : Type 0} (old new : LaneState B) (blocks : List (Option B)) (result : Outcome) : Type 0 where
-  pub blocks_are : new.registers.items ≡ blocks
-  pub results : new.outcomes.items ≡ old.outcomes.items ++ result ∷ []
-  pub same_caller : new.caller ≡ old.caller
-  pub at : new.stage ≡ stage.Between
-  pub room : vec_capacity new.outcomes ≡ vec_capacity old.outcomes
-
--- a lane made an operation by these calls
+-- a lane made an operation by these calls, and was given its outcome
 pub makes :
-    {B S : Type 0} {place_of : B → ℕ} {need_of_block : B → Need} {maker : Maker S} {s t : S} {old new : LaneState B} {blocks : List (Option B)}
-    → KeepBlocks maker.called maker.owns → MayMake place_of need_of_block maker s old
-    → (operation : Op) (result : Outcome) (slot : Option B) → slice_index_or old.registers.items (register_of operation) None ≡ slot
-    → (made : List Made) → MadeFor (option_map (held_by place_of need_of_block) slot) operation result made → LeadsBy maker.called s made t
-    → IsFinished old new blocks result
-    → held_blocks place_of need_of_block blocks ≡ registers_after (held_blocks place_of need_of_block old.registers.items) operation result
-    → Makes place_of need_of_block maker operation s t old new
-makes {place_of = place_of} {need_of_block = block_need} {maker = maker} {s = s} {t = t} {old = old} {new = new} {blocks = blocks} laws ready operation result slot is made for leads f after =
+    {B S : Type 0} {place_of : B → ℕ} {need_of_block : B → Need} {maker : Maker S} {s t : S} {old new : LaneState B}
+    → KeepBlocks maker.called maker.owns → HoldsBlocks place_of need_of_block (maker.owns s) old.registers.items → (operation : Op) (result : Outcome)
+    (made : List Made) → MadeFor (held_in (held_blocks place_of need_of_block old.registers.items) (register_of operation)) operation result made
+    → held_blocks place_of need_of_block new.registers.items
+    ≡ registers_after (held_blocks place_of need_of_block old.registers.items) operation result
+    → LeadsBy maker.called s made t → new.outcomes.items ≡ old.outcomes.items ++ result ∷ [] → new.caller ≡ old.caller → new.work ≡ old.work
+    → vec_capacity new.outcomes ≡ vec_capacity old.outcomes → Makes place_of need_of_block maker operation s t old new
+makes {place_of = place_of} {need_of_block = block_need} {maker = maker} {s = s} {t = t} {old = old} {new = new} laws holds operation result made for now leads results caller work room =
     let before = held_blocks place_of block_need old.registers.items in
-    let held = option_map (held_by place_of block_need) slot in
-    let there : held_in before (register_of operation) ≡ held =
-    slot-held place_of block_need old.registers.items (register_of operation) ∙ ap (option_map (held_by place_of block_need)) is in
-    let now : held_blocks place_of block_need new.registers.items ≡ registers_after before operation result =
-    ap (held_blocks place_of block_need) f.blocks_are ∙ after in
-    let holds =
-    op-holds laws s t before operation result held made (hold-held place_of block_need (maker.owns s) old.registers.items ready.holds) there for leads in
+    let after =
+    op-holds laws s t before operation result (held_in before (register_of operation)) made
+    (hold-held place_of block_need (maker.owns s) old.registers.items holds) refl for leads in
     record {
       result = result;
-      made = (made, subst (λ h. MadeFor h operation result made) (sym there) for, leads);
+      made = (made, for, leads);
       registers = now;
-      holds = held-hold place_of block_need (maker.owns t) new.registers.items (subst (HoldsAll maker.owns t) (sym now) holds);
-      results = f.results;
-      same_caller = f.same_caller;
-      between = f.at;
-      room = f.room;
+      holds = held-hold place_of block_need (maker.owns t) new.registers.items (subst (HoldsAll maker.owns t) (sym now) after);
+      results = results;
+      same_caller = caller;
+      same_work = work;
+      room = room;
     }

@@ -1,23 +1,21 @@
 -- An advance of a lane, part after part.
 use Rattle.std.proofs.Common.{ℕ, suc, true, false, ◌≡◌, ◌≢◌, ◌<◌, ◌+◌, ◌-◌, ◌^◌, ◌∷◌, List, [], Option, Some, None, length, min, drop, refl, sym, ap, ◌∙◌, subst, arith, get_or, drop-cons, below_more}
 use Rattle.trace_lane.proofs.Common.{Geometry, IsBusy, Call, ErrandFields, Made, HasSeenMore, IsServed, Op, Caller, HasStepped, HeldBlock, Outcome, LaneState}
-use Rattle.trace_lane.proofs.Common.{OperationStage, StandsBy, Stepped, CoreFields, Grip, MovesCore, AdvancesOn, HasAdvanced, IsAtHand, DoingIn, FirstPassed, IsLaneOn}
-use Rattle.trace_lane.proofs.Common.{IsLaneOf, machine_at, steps, errand_at, same-seen, begun_count}
+use Rattle.trace_lane.proofs.Common.{Work, StandsBy, Stepped, CoreFields, Grip, MovesCore, AdvancesOn, HasAdvanced, IsAtHand, DoingIn, FirstPassed, IsLaneOn}
+use Rattle.trace_lane.proofs.Common.{IsLaneOf, machine_at, steps, errand_at, same-seen, begun_count, option_map, work_at}
 use Rattle.step_machine.specs.Cores.{IsCore}
 use Rattle.lane_engine.specs.Machines.{grip_need, grip_place}
 use Rattle.step_machine.proofs.MomentLemmas.{core-served}
 use Rattle.trace_lane.specs.Advances.{BeginsOperation, GoesOnBy, MayBeginOperation, MayGoOn}
-use Rattle.trace_lane.specs.declared.stage.OperationStage.TheVariants as stage
 use Rattle.trace_lane.specs.States.{StandsOn}
+use Rattle.trace_lane.specs.Works.{work_held}
 use Rattle.trace_lane.proofs.AdvanceLemmas.{advance-none, advance-then, calls-kept, part-begins, part-steps}
 use Rattle.trace_lane.proofs.NeedLemmas.{here-below}
 
 -- an operation that is under way counts as begun
-pub count-under : (results : List Outcome) (at : OperationStage) → at ≢ stage.Between → begun_count results at ≡ length results + 1
-count-under results stage.Between not = absurd (not refl)
-count-under results (stage.Copying old i None) not = omega arith
-count-under results (stage.Copying old i (Some word)) not = omega arith
-count-under results at not = omega arith
+pub count-under : {B : Type 0} (results : List Outcome) (at : Option (Work B)) → at ≢ None → begun_count results at ≡ length results + 1
+count-under results None not = absurd (not refl)
+count-under results (Some work) not = omega arith
 
 -- a list from one of its elements on
 pub next-op :
@@ -41,21 +39,25 @@ pub record IsUnder (e : ErrandFields) (operations : List Op) : Type 0 where
 
 -- a lane that is not between two operations
 in-some :
-    (before registers : List (Option HeldBlock)) (left : List Op) (at : OperationStage) (present : List Made) (under : Option Call) → at ≢ stage.Between
+    (before registers : List (Option HeldBlock)) (left : List Op) (at : Option (Work HeldBlock)) (present : List Made) (under : Option Call) → at ≢ None
     → DoingIn before registers left at present under → (operation : Op) × (rest : List Op) × (left ≡ operation ∷ rest) × (under ≢ None)
-in-some before registers left stage.Between present under not doing = absurd (not refl)
-in-some before registers left at present under not (o, rest, next, doing, is) = (o, rest, next, λ none. cc)
+in-some before registers left None present under not doing = absurd (not refl)
+in-some before registers left (Some work) present under not (o, rest, next, doing, is) = (o, rest, next, λ none. cc)
 
 by-busy : (g : Geometry) (caller : ℕ) (made : List Made) (under : Option Call) (now : Caller) → under ≢ None → StandsBy g caller made under now → IsBusy now.errand
 by-busy g caller made None now some stands = absurd (some refl)
 by-busy g caller made (Some call) now some (last, leads, rests, owned, is) = is.busy
 
+held-some : (at : Option (Work Grip)) → at ≢ None → option_map (work_held grip_place grip_need) at ≢ None
+held-some None not = absurd (not refl)
+held-some (Some work) not = λ is. cc
+
 lane-under :
-    (c : CoreFields) (operations : List Op) (lane : LaneState Grip) (calls : List Call) → IsLaneOn c operations lane calls → lane.stage ≢ stage.Between
+    (c : CoreFields) (operations : List Op) (lane : LaneState Grip) (calls : List Call) → IsLaneOn c operations lane calls → lane.work ≢ None
     → IsUnder (errand_at c.errands lane.caller) (drop (length lane.outcomes.items) operations)
 lane-under c operations lane calls stands not =
     let l = stands.stands in
-    let so = in-some _ _ (drop (length lane.outcomes.items) operations) lane.stage l.making.present l.under not l.making.doing in
+    let so = in-some _ _ (drop (length lane.outcomes.items) operations) (work_at (machine_at c lane.caller) lane.work) l.making.present l.under (held-some lane.work not) l.making.doing in
     record {
       operation = so.0;
       rest = so.1;
@@ -79,7 +81,7 @@ stands-after c after operations lane new on core heap same calls stands =
 
 -- a lane between two operations begins the next one
 pub before-next :
-    (c : CoreFields) (operations : List Op) (lane : LaneState Grip) (operation : Op) → StandsOn c operations lane → lane.stage ≡ stage.Between
+    (c : CoreFields) (operations : List Op) (lane : LaneState Grip) (operation : Op) → StandsOn c operations lane → lane.work ≡ None
     → IsAtHand operations lane.outcomes.items operation → (calls : List Call) → IsLaneOn c operations lane calls
     → MayBeginOperation operation c operations calls lane
 before-next c operations lane operation on between next calls stands =
@@ -87,7 +89,7 @@ before-next c operations lane operation on between next calls stands =
 
 -- a lane with as many outcomes, between two operations, may begin the operation at this place
 pub next-ready :
-    (c : CoreFields) (operations : List Op) (lane : LaneState Grip) (k : ℕ) (d : Op) (on : StandsOn c operations lane) → lane.stage ≡ stage.Between
+    (c : CoreFields) (operations : List Op) (lane : LaneState Grip) (k : ℕ) (d : Op) (on : StandsOn c operations lane) → lane.work ≡ None
     → length lane.outcomes.items ≡ k → k < length operations → MayBeginOperation (get_or operations k d) c operations on.calls lane
 next-ready c operations lane k d on between here below =
     before-next c operations lane (get_or operations k d) on between (next-op operations lane.outcomes.items k d here below) on.calls on.stands
@@ -149,7 +151,7 @@ module _ {passed : ℕ → ℕ → Type 0} {operations : List Op} {s t : CoreFie
             (part-begins t u mid after _ goes before.between [] (errand_at t.errands mid.caller) operations calls before
             (λ cs on. before-next t operations mid operation so.stands before.between before.next cs on)));
         gate = λ first.
-            let here : begun_count mid.outcomes.items mid.stage ≡ length mid.outcomes.items =
+            let here : begun_count mid.outcomes.items mid.work ≡ length mid.outcomes.items =
             ap (λ a. begun_count mid.outcomes.items a) before.between ∙ omega arith in
             subst (FirstPassed passed lane.caller) (sym gone.count)
             (passed-more passed lane.caller (length mid.outcomes.items) (subst (FirstPassed passed lane.caller) here (so.gate first)) last);
@@ -159,10 +161,10 @@ module _ {passed : ℕ → ℕ → Type 0} {operations : List Op} {s t : CoreFie
   pub record HasNext (u : CoreFields) (after : LaneState Grip) : Type 0 where
     pub advanced : AdvancesOn passed operations s u lane after false
     pub no_event : u.events ≡ t.events
-    pub count : begun_count after.outcomes.items after.stage ≡ length mid.outcomes.items + 1
+    pub count : begun_count after.outcomes.items after.work ≡ length mid.outcomes.items + 1
 
   pub onward-next :
-      {u : CoreFields} {after : LaneState Grip} (k number : ℕ) (d : Op) → IsCore u → mid.stage ≡ stage.Between → length mid.outcomes.items ≡ k
+      {u : CoreFields} {after : LaneState Grip} (k number : ℕ) (d : Op) → IsCore u → mid.work ≡ None → length mid.outcomes.items ≡ k
       → k < length operations → BeginsOperation (get_or operations k d) t u mid after → number ≡ min k (2 ^ 32 - 1) → passed mid.caller number → HasNext u after
   onward-next {u = u} k number d core between here below goes number_is told =
       let ready = next-ready t operations mid k d so.stands between here below in
@@ -176,7 +178,7 @@ module _ {passed : ℕ → ℕ → Type 0} {operations : List Op} {s t : CoreFie
 
   -- a step of the operation that is under way may be answered
   pub step-told :
-      {u : CoreFields} {told : Stepped Grip} (k : ℕ) (d : Op) → mid.stage ≢ stage.Between → HasMade t u mid told → length mid.outcomes.items ≡ k → (calls : List Call) → IsLaneOn t operations mid calls
+      {u : CoreFields} {told : Stepped Grip} (k : ℕ) (d : Op) → mid.work ≢ None → HasMade t u mid told → length mid.outcomes.items ≡ k → (calls : List Call) → IsLaneOn t operations mid calls
       → MayGoOn (get_or operations k d) told u t.events (errand_at t.errands mid.caller) operations calls mid
   step-told {u = u} k d not made here calls stands =
       let on = so.stands in
@@ -194,7 +196,7 @@ module _ {passed : ℕ → ℕ → Type 0} {operations : List Op} {s t : CoreFie
 
   -- a lane has gone on by a step, which is answered
   pub onward-steps :
-      {u v : CoreFields} {after : LaneState Grip} {told : Stepped Grip} (k : ℕ) (d : Op) → t.events ≡ s.events → mid.stage ≢ stage.Between → HasMade t u mid told
+      {u v : CoreFields} {after : LaneState Grip} {told : Stepped Grip} (k : ℕ) (d : Op) → t.events ≡ s.events → mid.work ≢ None → HasMade t u mid told
       → length mid.outcomes.items ≡ k → GoesOnBy (get_or operations k d) told u v mid after → IsCore v
       → AdvancesOn passed operations s v lane after true
   onward-steps {u = u} {v = v} {after = after} k d same not made here goes core =
@@ -219,14 +221,14 @@ module _ {passed : ℕ → ℕ → Type 0} {operations : List Op} {s t : CoreFie
             (subst (λ c. HasAdvanced t v c operations mid after true) same_caller
             (part-steps u v mid after t _ step goes operations calls ready (λ cs on. step-told k d not made here cs on)));
         gate = λ first.
-            let count : begun_count mid.outcomes.items mid.stage ≡ length mid.outcomes.items + 1 =
-            count-under mid.outcomes.items mid.stage not in
+            let count : begun_count mid.outcomes.items mid.work ≡ length mid.outcomes.items + 1 =
+            count-under mid.outcomes.items mid.work not in
             subst (FirstPassed passed lane.caller) (count ∙ sym gone.count) (so.gate first);
       }
 
 -- a lane that is between two operations again has one outcome more
 pub begun-more :
-    (before after : List Outcome) (at : OperationStage) (op : ℕ) → at ≡ stage.Between → begun_count after at ≡ length before + 1 → length before ≡ op
+    (before after : List Outcome) (at : Option (Work Grip)) (op : ℕ) → at ≡ None → begun_count after at ≡ length before + 1 → length before ≡ op
     → length after ≡ op + 1
 begun-more before after at op between count here =
-    let now : begun_count after stage.Between ≡ length before + 1 = ap (λ a. begun_count after a) (sym between) ∙ count in omega arith
+    let now : begun_count {B = Grip} after None ≡ length before + 1 = ap (λ a. begun_count after a) (sym between) ∙ count in omega arith

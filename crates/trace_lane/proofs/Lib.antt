@@ -3,7 +3,6 @@ pub mod AdvanceLemmas
 pub mod AnswerLemmas
 pub mod CallerLemmas
 pub mod Common
-pub mod DoingLemmas
 pub mod EachCall
 pub mod EndedLemmas
 pub mod FitLemmas
@@ -12,12 +11,14 @@ pub mod LaneNext
 pub mod MadeLemmas
 pub mod MakingLemmas
 pub mod NeedLemmas
+pub mod OperationLemmas
 pub mod OwnLemmas
 pub mod PartLemmas
 pub mod QuietLemmas
 pub mod RowLemmas
 pub mod ScriptLemmas
 pub mod StandLemmas
+pub mod StepLemmas
 pub mod TurnLemmas
 pub mod WalkLemmas
 pub mod WorkLemmas

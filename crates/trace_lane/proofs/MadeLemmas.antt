@@ -1,13 +1,11 @@
 -- Operations that were made, with one more.
-use Rattle.std.proofs.Common.{ℕ, ◌≡◌, ◌≢◌, ◌<◌, ◌+◌, ◌∷◌, ◌++◌, List, [], Option, Some, None, length, drop, refl, sym, ap, ◌∙◌, subst, append_assoc, append-nil}
-use Rattle.trace_lane.proofs.Common.{Need, Reply, Call, Op, HeldBlock, Outcome, LaneState, IsAtHand, AllMadeFor, LeadsBy, Made, Maker, KeepBlocks, HasRun, Makes, AllMade}
-use Rattle.trace_lane.proofs.Common.{AreMisses, MadeFor, min, alloc, free, take, slice_index_or, option_map, register_of, held_in, registers_after, held_by, held_blocks}
-use Rattle.trace_lane.proofs.Common.{get_or_default, length-append, usable_words, answered, copied, wrote, leads-of, leads-split, registers_from}
+use Rattle.std.proofs.Common.{ℕ, ◌≡◌, ◌≢◌, ◌+◌, ◌∷◌, ◌++◌, List, [], Option, Some, None, length, drop, refl, sym, ap, ◌∙◌, subst, append_assoc, append-nil}
+use Rattle.trace_lane.proofs.Common.{Need, Reply, Call, Op, HeldBlock, Outcome, LaneState, IsAtHand, AllMadeFor, LeadsBy, Made, Maker, HasRun, Makes, AllMade}
+use Rattle.trace_lane.proofs.Common.{AreMisses, MadeFor, take, option_map, register_of, held_in, registers_after, held_by, held_blocks}
+use Rattle.trace_lane.proofs.Common.{length-append, answered, leads-of, leads-split, registers_from}
 use Rattle.std.proofs.lemmas.List.{drop-drop}
 use Rattle.heap_geometry.specs.Need.{need_of}
 use Rattle.errand_steps.specs.declared.reply.Reply.TheVariants as reply
-use Rattle.trace_text.specs.declared.trace.Op.TheVariants as op
-use Rattle.sound_laws.specs.events.Made.{Copies}
 use Rattle.lane_engine.proofs.LeadsLemmas.{leads-then}
 use Rattle.lane_outcomes.specs.declared.outcome.Outcome.TheVariants as outcome
 use Rattle.trace_lane.specs.Made.{IsUnasked, OneMade}
@@ -89,38 +87,6 @@ from-more registers [] (r ∷ results) operation result rest next = absurd (cc)
 from-more registers (o ∷ operations) (r ∷ results) operation result rest next =
     from-more (registers_after registers o r) operations results operation result rest next
 
--- an allocation was given a block and filled it, and a resize has copied its words into one and freed it: the block serves what was asked for
-module _ {S : Type 0} {called : S → Call → Reply → S → Type 0} {owns : S → ℕ → Need → Type 0} (laws : KeepBlocks called owns) where
-  pub made-given :
-      (r words v place : ℕ) (need : Need) (s t u : S) → called s (alloc words) (reply.Given place need) t
-      → LeadsBy called t (wrote place need v (usable_words need)) u
-      → (made : List Made) × MadeFor None (op.Alloc r words v) (outcome.Given (usable_words need) place) made × LeadsBy called s made u
-  made-given r words v place need s t u one leads =
-      let calls = λ (n : Need). answered (alloc words) (reply.Given place n) ∷ wrote place n v (usable_words n) in (
-        calls need,
-        subst (λ n. MadeFor None (op.Alloc r words v) (outcome.Given (usable_words n) place) (calls n)) (sym (laws.serves s t words place need one))
-            (refl, refl),
-        (t, one, leads),
-      )
-
-  pub made-resized :
-      (r words place : ℕ) (need : Need) (from : ℕ) (had : Need) (s t u v : S) → need_of words ≢ had → called s (alloc words) (reply.Given place need) t
-      → Copies called t from had place need u → called u (free from had) reply.Freed v
-      → (made : List Made)
-      × MadeFor (Some (record { place = from; words = usable_words had; need = had })) (op.Resize r words) (outcome.Resized (usable_words need) place) made
-      × LeadsBy called s made v
-  made-resized r words place need from had s t u v differ one (found, all, leads) freed =
-      let held : HeldBlock = record { place = from; words = usable_words had; need = had } in
-      let then : List Made = answered (free from had) reply.Freed ∷ [] in
-      let copies = λ (n : Need). copied from had place n found (usable_words n) in
-      let calls = λ (n : Need). answered (alloc words) (reply.Given place n) ∷ copies n ++ then in
-      let serves = laws.serves s t words place need one in (
-        calls need,
-        subst (λ n. MadeFor (Some held) (op.Resize r words) (outcome.Resized (usable_words n) place) (calls n)) (sym serves)
-            (differ, refl, refl, found, subst (λ n. length found ≡ min (usable_words had) (usable_words n)) serves all, refl),
-        (t, one, leads-then called t u v (copies need) then leads (v, freed, refl)),
-      )
-
 -- a resize that asks for a block: its register holds one of another need
 pub asked-full :
     {B : Type 0} (place_of : B → ℕ) (need_of_block : B → Need) (slot : Option B) (need : ℕ) (result : Option Outcome) → result ≡ None
@@ -130,13 +96,6 @@ asked-full place_of need_of_block None need result none unasked =
     absurd (let both : None ≡ Some outcome.Skipped = sym none ∙ unasked in cc)
 asked-full place_of need_of_block (Some block) need None none unasked = (block, refl, unasked)
 asked-full place_of need_of_block (Some block) need (Some result) none unasked = absurd (cc)
-
--- what the code reads in a register
-pub slot-read :
-    {B : Type 0} (blocks : List (Option B)) (r from : ℕ) (found slot : Option B) → from ≡ r → found ≡ slice_index_or blocks from found → found ≡ slot
-    → r < length blocks → slice_index_or blocks r None ≡ slot
-slot-read blocks r from found slot at found_is is within =
-    get_or_default blocks r None found within ∙ ap (λ k. slice_index_or blocks k found) (sym at) ∙ sym found_is ∙ is
 
 -- one operation more of a run
 pub run-more :
@@ -167,6 +126,6 @@ run-more place_of need_of_block maker operations s t u old mid new operation ran
       outcomes =
           makes.results ∙ ap (λ xs. xs ++ makes.result ∷ []) ran.outcomes ∙ append_assoc old.outcomes.items ran.results (makes.result ∷ []);
       same_caller = makes.same_caller ∙ ran.same_caller;
-      between = λ is. makes.between;
+      same_work = makes.same_work ∙ ran.same_work;
       room = makes.room ∙ ran.room;
     }

@@ -1,10 +1,9 @@
 -- How many words blocks have, and how much of its script a lane has left.
-use Rattle.std.proofs.Common.{ℕ, zero, suc, ◌≡◌, ◌<◌, ◌≤◌, ◌+◌, ◌^◌, ◌∷◌, ◌++◌, List, [], length, drop, arith}
-use Rattle.trace_lane.proofs.Common.{Geometry, Need, Small, Large, TooLarge, IsNeed, Op, Outcome, OperationStage, LARGE_MOST, SMALL_MOST, IsHeapBlock, usable_words}
-use Rattle.trace_lane.proofs.Common.{length-append, begun_bound, script_left, stage_begun}
+use Rattle.std.proofs.Common.{ℕ, zero, suc, ◌≡◌, ◌<◌, ◌≤◌, ◌+◌, ◌^◌, ◌∷◌, ◌++◌, List, [], Option, None, length, drop, arith}
+use Rattle.trace_lane.proofs.Common.{Geometry, Need, Small, Large, TooLarge, IsNeed, Op, Outcome, Work, LARGE_MOST, SMALL_MOST, IsHeapBlock, usable_words}
+use Rattle.trace_lane.proofs.Common.{length-append, begun_bound, script_left, work_begun}
 use Rattle.std.proofs.Math.Pow.{pow_mono}
 use Rattle.heap_geometry.specs.declared.limits.TheConstants.{CLASSES}
-use Rattle.trace_lane.specs.declared.stage.OperationStage.TheVariants as stage
 
 drop-below : (n : ℕ) (operations : List Op) (operation : Op) (rest : List Op) → drop n operations ≡ operation ∷ rest → n < length operations
 drop-below zero [] operation rest next = absurd (let e : [] ≡ operation ∷ rest = next in cc)
@@ -39,15 +38,15 @@ here-below operations rest results operation next = drop-below (length results) 
 
 -- what is left of a script falls: where the operation at hand begins or goes on, and where it ends
 pub left-rises :
-    (operations rest : List Op) (results : List Outcome) (operation : Op) (at to : OperationStage) → drop (length results) operations ≡ operation ∷ rest
-    → stage_begun at < stage_begun to → stage_begun at < begun_bound → script_left operations results to < script_left operations results at
+    {B : Type 0} (operations rest : List Op) (results : List Outcome) (operation : Op) (at to : Option (Work B)) → drop (length results) operations ≡ operation ∷ rest
+    → work_begun at < work_begun to → work_begun at < begun_bound → script_left operations results to < script_left operations results at
 left-rises operations rest results operation at to next rises few =
     let below : length results < length operations = here-below operations rest results operation next in omega arith
 
 pub left-ends :
-    (operations rest : List Op) (results : List Outcome) (operation : Op) (result : Outcome) (at : OperationStage)
-    → drop (length results) operations ≡ operation ∷ rest → stage_begun at < begun_bound
-    → script_left operations (results ++ result ∷ []) stage.Between < script_left operations results at
+    {B : Type 0} (operations rest : List Op) (results : List Outcome) (operation : Op) (result : Outcome) (at : Option (Work B))
+    → drop (length results) operations ≡ operation ∷ rest → work_begun at < begun_bound
+    → script_left {B = B} operations (results ++ result ∷ []) None < script_left operations results at
 left-ends operations rest results operation result at next few =
     let below : length results < length operations = here-below operations rest results operation next in
     let longer = length-append results (result ∷ []) in

@@ -1,7 +1,7 @@
 -- Registers that hold nothing.
 use Rattle.std.proofs.Common.{ℕ, zero, suc, ◌≡◌, ◌∷◌, Option, Some, None, replicate, refl, sym, ap, ◌∙◌}
 use Rattle.trace_lane.proofs.Common.{Need, REGISTERS, HoldsBlocks, length-replicate, slice_index_or, held_blocks}
-use Rattle.trace_lane.proofs.HoldsLemmas.{held_need, held_place}
+use Rattle.trace_lane.proofs.EachCall.{held_need, held_place}
 
 none-at : {B : Type 0} (n r : ℕ) → slice_index_or (replicate {A = Option B} n None) r None ≡ None
 none-at zero r = refl

@@ -1,39 +1,25 @@
 -- What one operation of a lane makes, by the whole calls that were made for it.
-use Rattle.std.proofs.Common.{ℕ, true, suc, ◌≡◌, ◌≢◌, ◌<◌, ◌≤◌, ◌+◌, ◌%◌, ◌^◌, ◌∷◌, ◌++◌, List, [], Option, Some, None, length, append-nil, refl, sym, ap, ◌∙◌, subst, inl, inr, arith, zero-add}
-use Rattle.trace_lane.proofs.Common.{Geometry, Need, Event, IsLegal, Block, Reply, Call, IsServed, LeadsBy, Made, Op, HeldBlock, Outcome, Free, Put, Take, TakeNone, Ended}
+use Rattle.std.proofs.Common.{ℕ, true, suc, ◌≡◌, ◌≢◌, ◌<◌, ◌≤◌, ◌+◌, ◌∷◌, ◌++◌, List, [], Option, Some, None, length, append-nil, refl, sym, ap, ◌∙◌, subst, inl, inr, arith}
+use Rattle.trace_lane.proofs.Common.{Geometry, Need, Event, IsLegal, Block, Reply, Call, IsServed, LeadsBy, Made, Op, HeldBlock, Outcome, Ended}
 use Rattle.trace_lane.proofs.Common.{EventsOf, IsWellFormed, EndsCall, Caller, IsAtRest, IsCall, MadeBy, OwnsFor, Position, IsSpent, MayAsk, Moment, FitsRow, IsWord}
-use Rattle.trace_lane.proofs.Common.{Setting, MadeFor, min, block_at, pool_of, alloc, free, put, take, answered, copied, cases_lt, own, legal-weaker, alloc_answer, end_of}
-use Rattle.trace_lane.proofs.Common.{register_of, setting_in, leads-split, slice_index_or, get_or_default, get_or_past, usable_words, alloc_spent, every-found, sound-of}
-use Rattle.trace_lane.proofs.Common.{begun_at, at_once, by_steps, filling, writing, held_in}
+use Rattle.trace_lane.proofs.Common.{Setting, min, block_at, pool_of, alloc, answered, copied, cases_lt, own, legal-weaker, alloc_answer, end_of}
+use Rattle.trace_lane.proofs.Common.{register_of, setting_in, slice_index_or, get_or_default, get_or_past, usable_words, alloc_spent, every-found, sound-of}
+use Rattle.trace_lane.proofs.Common.{begun_at, at_once, by_steps, writing, held_in}
 use Rattle.std.specs.List.{AllZip}
 use Rattle.std.proofs.Math.Nat.{min-le_left}
 use Rattle.heap_geometry.specs.Need.{need_of}
 use Rattle.pool_model.specs.declared.owner.Owner.TheVariants.{Caller as CallerOf}
 use Rattle.pool_model.specs.Calls.{alloc_given, alloc_refused}
-use Rattle.pool_model.specs.Calls as event_end
 use Rattle.errand_steps.specs.declared.reply.Begun.TheVariants as begun
 use Rattle.errand_steps.specs.declared.reply.Reply.TheVariants as reply
-use Rattle.trace_text.specs.declared.trace.Op.TheVariants as op
 use Rattle.lane_outcomes.specs.declared.outcome.Outcome.TheVariants as outcome
-use Rattle.lane_outcomes.specs.Rows.{RowAt, CheckRow, IsCopy}
-use Rattle.trace_lane.specs.Made.{Skips}
-use Rattle.trace_lane.proofs.AddedLemmas.{HasAdded, HasKept, HasTakenOff, added-none, added-then, called-added, copy-walk, ended-as, full-added, got-added, kept-on, reads-kept, takes-added, value_of, whole-added, writes-added}
+use Rattle.lane_outcomes.specs.Rows.{RowAt, IsCopy}
+use Rattle.trace_lane.proofs.AddedLemmas.{HasAdded, HasKept, added-none, called-added, copy-walk, ended-as, kept-on, value_of, whole-added}
 use Rattle.trace_lane.proofs.AnswerLemmas.{alloc-not_begun, ends-spent_call}
-use Rattle.trace_lane.proofs.CallerLemmas.{Owns, alloc-started, caller-laws, ends-called, steps-busy, steps-called}
-use Rattle.trace_lane.proofs.HoldsLemmas.{HoldsAll}
-use Rattle.trace_lane.proofs.QuietLemmas.{AllQuiet, quiet-giving}
+use Rattle.trace_lane.proofs.CallerLemmas.{Owns, alloc-started, ends-called, steps-busy, steps-called}
+use Rattle.trace_lane.proofs.EachCall.{HoldsAll}
+use Rattle.trace_lane.proofs.QuietLemmas.{AllQuiet}
 use Rattle.trace_lane.proofs.TurnLemmas.{answered_in, asked-unspent, is-spent, may-ask}
-
--- a skipped operation's
-skip-row :
-    (setting : Setting) (position : Position) (operation : Op) (slot : Option HeldBlock) → Skips slot operation
-    → RowAt setting position operation slot outcome.Skipped []
-skip-row setting position (op.Alloc r need v) (Some held) skips = refl
-skip-row setting position (op.Take r shelf) (Some held) skips = refl
-skip-row setting position (op.Alloc r need v) None skips = absurd skips
-skip-row setting position (op.Take r shelf) None skips = absurd skips
-skip-row setting position operation None skips = refl
-skip-row setting position operation (Some held) skips = absurd skips
 
 -- a live block has all its words
 contents-long :
@@ -43,7 +29,7 @@ contents-long g events place block legal live =
     (every-found (IsWellFormed g) place (pool_of events) block (sound-of g events (legal-weaker g events legal)).each live).full
 
 -- words, each as a block holds it, are the block's
-zip-of :
+pub zip-of :
     (contents : List (Option ℕ)) (words : List ℕ) → length contents ≡ length words
     → ((i : ℕ) → i < length words → IsWord (slice_index_or contents i None) (slice_index_or words i 0)) → AllZip IsWord contents words
 zip-of [] [] same each = tt
@@ -111,33 +97,33 @@ module _ (g : Geometry) (c d : Caller) (base : Position) (st : IsBetween g c bas
   heap = st.rests.served.own_errand.geometry
 
   -- the caller's own events behind the operation
-  own-later : (piece : List Event) → HasAdded g c d piece → own caller d.seen ≡ base.done ++ piece
+  pub own-later : (piece : List Event) → HasAdded g c d piece → own caller d.seen ≡ base.done ++ piece
   own-later piece added = added.moved.own_events ∙ ap (λ xs. xs ++ piece) st.done
 
   -- the moments before and behind the operation
-  abbrev moment-first : (piece : List Event) → HasAdded g c d piece → Moment setting base.done
+  abbrev pub moment-first : (piece : List Event) → HasAdded g c d piece → Moment setting base.done
   moment-first piece added = record { before = c.seen; begins = (added.moved.rest, added.moved.seen); own_done = st.done }
 
-  abbrev moment-last : HasAdded g c d [] → Moment setting base.done
+  abbrev pub moment-last : HasAdded g c d [] → Moment setting base.done
   moment-last added =
       record { before = d.seen; begins = ([], sym (append-nil d.seen)); own_done = own-later [] added ∙ append-nil base.done }
 
-  gone :
+  pub gone :
       (operation : Op) (result : Outcome) (slot : Option HeldBlock) (piece : List Event) → held_in base.registers (register_of operation) ≡ slot
       → HasAdded g c d piece → RowAt setting base operation slot result piece → (result ≡ outcome.Spent → d.errand.turns ≡ g.turn_limit)
       → HasGone g c d base operation result
   gone operation result slot piece is added row spent =
       record { piece = piece; added = added; row = subst (λ h. RowAt setting base operation h result piece) (sym is) row; spent = spent }
 
-  none-added : d ≡ c → HasAdded g c d []
+  pub none-added : d ≡ c → HasAdded g c d []
   none-added same = subst (λ x. HasAdded g c x []) (sym same) (added-none g c st.rests)
 
-  one-call : (made : List Made) (call : Call) (answer : Reply) → made ≡ answered call answer ∷ [] → Leads made → IsCall g c call answer d
+  pub one-call : (made : List Made) (call : Call) (answer : Reply) → made ≡ answered call answer ∷ [] → Leads made → IsCall g c call answer d
   one-call made call answer is leads =
       let one = subst Leads is leads in subst (λ x. IsCall g c call answer x) (sym one.2) one.1
 
   -- one call, whose events are known
-  one-added :
+  pub one-added :
       (made : List Made) (call : Call) (answer : Reply) (end : Ended) (piece : List Event) → made ≡ answered call answer ∷ [] → Leads made
       → ((words : ℕ) → call ≡ alloc words → answer ≡ reply.Spent → ⊥) → end_of call answer ≡ Some end
       → ((added : List Event) → EventsOf caller end added → added ≡ piece) → HasAdded g c d piece
@@ -149,7 +135,7 @@ module _ (g : Geometry) (c d : Caller) (base : Position) (st : IsBetween g c bas
       (block : Block) × (block_at held.place (pool_of c.seen) ≡ Some block) × (block.owner ≡ CallerOf caller)
       × (length block.contents ≡ usable_words held.need)
 
-  owns-it : (r : ℕ) (held : HeldBlock) → held_in base.registers r ≡ Some held → OwnsIt held
+  pub owns-it : (r : ℕ) (held : HeldBlock) → held_in base.registers r ≡ Some held → OwnsIt held
   owns-it r held full =
       let owned = st.holds.owned r held full in (
         owned.0,
@@ -168,7 +154,7 @@ module _ (g : Geometry) (c d : Caller) (base : Position) (st : IsBetween g c bas
   asks-by need answer t (by_steps ends) not = asks-made need answer t ends
   asks-by need answer t (at_once words is_alloc is_spent spent same) not = absurd (not is_spent)
 
-  refusal :
+  pub refusal :
       (need : ℕ) (made : List Made) → made ≡ answered (alloc need) reply.Refused ∷ [] → Leads made
       → (piece : List Event) × HasAdded g c d piece × MayAsk base need × EventsOf caller (alloc_refused need) piece
   refusal need made is leads =
@@ -212,7 +198,7 @@ module _ (g : Geometry) (c d : Caller) (base : Position) (st : IsBetween g c bas
       ap (λ (x : Caller). x.errand.turns) same ∙ none.limit ∙ ap (λ (x : Geometry). x.turn_limit) heap in
       ([], added, spent-so need [] added limit none.all (λ is. refl), limit)
 
-  spending :
+  pub spending :
       (need : ℕ) (made : List Made) → made ≡ answered (alloc need) reply.Spent ∷ [] → Leads made
       → (piece : List Event) × HasAdded g c d piece × IsSpent setting base need piece base.spent × (d.errand.turns ≡ g.turn_limit)
   spending need made is leads =
@@ -249,117 +235,3 @@ module _ (g : Geometry) (c d : Caller) (base : Position) (st : IsBetween g c bas
       let before : HasKept g c held.place block mine t calls = kept-on g c held.place block mine c t [] calls first added quiet in
       let walk = copy-walk g c held.place block mine held.need place need apart found words 0 t u calls before leads in
       (walk.0.has, λ piece more. copy-of setting base held block words found (moment-first piece more) live (long ∙ sym has) all walk.1)
-
-  -- an operation that was made
-  pub op-gone :
-      (operation : Op) (result : Outcome) (slot : Option HeldBlock) (made : List Made) → held_in base.registers (register_of operation) ≡ slot
-      → MadeFor slot operation result made → Leads made → HasGone g c d base operation result
-  op-gone operation outcome.Skipped slot made is (skip, none) leads =
-      gone operation outcome.Skipped slot [] is (none-added (subst Leads none leads)) (skip-row setting base operation slot skip) (λ is. absurd (cc))
-  op-gone (op.Alloc r need v) (outcome.Given words place) None made is (words_are, calls) leads =
-      let (t, one, more) = subst Leads calls leads in
-      let x = gives need place t one in
-      let fills = filling caller place words v in
-      let wrote_so : HasAdded g t d fills =
-      subst (λ k. HasAdded g t d (filling k place words v)) x.added.moved.same_caller
-      (writes-added g place (need_of need) (λ (i : ℕ). (v + i) % 2 ^ 64) words 0 t d x.added.rests more) in
-      gone (op.Alloc r need v) (outcome.Given words place) None (x.calls ++ fills) is (added-then g c t d x.calls fills x.added wrote_so)
-      (x.asks, words_are, x.calls, x.events, refl) (λ is. absurd (cc))
-  op-gone (op.Alloc r need v) outcome.Refused None made is calls leads =
-      let (piece, added, may, events) = refusal need made calls leads in
-      gone (op.Alloc r need v) outcome.Refused None piece is added (may, events) (λ is. absurd (cc))
-  op-gone (op.Alloc r need v) outcome.Spent None made is calls leads =
-      let (piece, added, row, limit) = spending need made calls leads in
-      gone (op.Alloc r need v) outcome.Spent None piece is added row (λ is. limit)
-  op-gone (op.Free r) outcome.Freed (Some held) made is (words, calls) leads =
-      let piece : List Event = Free caller held.place ∷ [] in
-      gone (op.Free r) outcome.Freed (Some held) piece is
-      (one-added made (free held.place held.need) reply.Freed (event_end.freed held.place) piece calls leads (λ words is spent. cc) refl (λ more is. is))
-      refl (λ is. absurd (cc))
-  op-gone (op.Fill r v) outcome.Filled (Some held) made is (words, calls) leads =
-      gone (op.Fill r v) outcome.Filled (Some held) (filling caller held.place held.words v) is
-      (writes-added g held.place held.need (λ (i : ℕ). (v + i) % 2 ^ 64) held.words 0 c d st.rests (subst Leads calls leads)) refl (λ is. absurd (cc))
-  op-gone (op.Check r) (outcome.Sum total) (Some held) made is (words_are, (words, all, total_is, calls)) leads =
-      let (block, live, mine, long) = owns-it r held is in
-      let first : HasKept g c held.place block mine c [] = record { has = added-none g c st.rests; still = live } in
-      let read = reads-kept g c held.place block mine held.need words 0 c d first (subst Leads calls leads) in
-      let summed : CheckRow setting base (Some held) (outcome.Sum total) [] = (
-        refl,
-        moment-first [] read.0.has,
-        block,
-        live,
-        record {
-          words = words;
-          each = zip-of block.contents words (long ∙ sym words_are ∙ sym all)
-              (λ i below. subst (λ k. IsWord (slice_index_or block.contents k None) (slice_index_or words i 0)) (zero-add i) (read.1 i below));
-          total_is = total_is;
-        },
-      ) in
-      gone (op.Check r) (outcome.Sum total) (Some held) [] is read.0.has summed (λ is. absurd (cc))
-  op-gone (op.Put r shelf) outcome.Put (Some held) made is (words, calls) leads =
-      let piece : List Event = Put caller held.place shelf ∷ [] in
-      gone (op.Put r shelf) outcome.Put (Some held) piece is
-      (one-added made (put held.place held.need shelf) reply.Put (event_end.put_done held.place shelf) piece calls leads (λ words is spent. cc) refl
-      (λ more is. is)) refl (λ is. absurd (cc))
-  op-gone (op.Put r shelf) outcome.ShelfFull (Some held) made is (words, (found, calls)) leads =
-      let (added, lies) =
-      full-added g c d held.place held.need shelf found (one-call made (put held.place held.need shelf) (reply.Full found) calls leads) in
-      gone (op.Put r shelf) outcome.ShelfFull (Some held) [] is added (refl, moment-last added, lies) (λ is. absurd (cc))
-  op-gone (op.Take r shelf) (outcome.Took words place need) None made is (misses, are, words_are, calls) leads =
-      let (t, first, last) = takes-added g shelf (reply.Got place need) misses c d are st.rests (subst Leads calls leads) in
-      let got = got-added g t d shelf place need last in
-      let off : HasTakenOff t d shelf place need = got.1 in
-      let same : t.errand.caller ≡ caller = first.moved.same_caller in
-      let piece : List Event = Take caller shelf place ∷ [] in
-      let one : HasAdded g t d piece = subst (λ k. HasAdded g t d (Take k shelf place ∷ [])) same got.0 in
-      let whole : d.seen ≡ off.before ++ piece = subst (λ k. d.seen ≡ off.before ++ Take k shelf place ∷ []) same off.last in
-      let own_before : own caller off.before ≡ base.done =
-      subst (λ k. own k off.before ≡ own k t.seen) same off.own_before ∙ first.moved.own_events ∙ append-nil (own caller c.seen) ∙ st.done in
-      gone (op.Take r shelf) (outcome.Took words place need) None piece is (added-then g c t d [] piece first one) (
-        refl,
-        record { before = off.before; begins = (piece, whole); own_done = own_before },
-        off.block,
-        ([], whole ∙ sym (append-nil (off.before ++ piece))),
-        off.lay,
-        words_are ∙ ap usable_words off.need_is,
-        off.need_is,
-      ) (λ is. absurd (cc))
-  op-gone (op.Take r shelf) outcome.ShelfEmpty None made is (misses, are, calls) leads =
-      let (t, first, last) = takes-added g shelf reply.Empty misses c d are st.rests (subst Leads calls leads) in
-      let piece : List Event = TakeNone caller shelf ∷ [] in
-      let one : HasAdded g t d piece =
-      whole-added g t d (take shelf) reply.Empty (event_end.take_empty shelf) piece last (λ words is spent. cc) refl
-      (λ more is. is ∙ ap (λ k. TakeNone k shelf ∷ []) first.moved.same_caller) in
-      gone (op.Take r shelf) outcome.ShelfEmpty None piece is (added-then g c t d [] piece first one) refl (λ is. absurd (cc))
-  op-gone (op.Resize r need) (outcome.Kept words place) (Some held) made is (serves, words_are, place_is, calls) leads =
-      gone (op.Resize r need) (outcome.Kept words place) (Some held) [] is (none-added (subst Leads calls leads)) (refl, serves, words_are, place_is)
-      (λ is. absurd (cc))
-  op-gone (op.Resize r need) (outcome.Resized words place) (Some held) made is (differ, words_are, has, found, all, calls) leads =
-      let (t, one, more) = subst Leads calls leads in
-      let n = need_of need in
-      let x = gives need place t one in
-      let release = free held.place held.need in
-      let apart : held.place ≢ place =
-      (caller-laws g).apart c t (alloc need) (reply.Given place n) place held.place n held.need one (refl, refl) (st.holds.owned r held is) in
-      let parts = leads-split (IsCall g) t d (copied held.place held.need place n found words) (answered release reply.Freed ∷ []) more in
-      let u = parts.0 in
-      let writes = writing caller place words (value_of found) in
-      let (copied_so, copy) = copies r words place held n found t u x.calls is has all apart x.added
-      (quiet-giving held.place caller need place n x.calls x.events) parts.1 in
-      let freed_one : IsCall g u release reply.Freed d = subst (λ y. IsCall g u release reply.Freed y) (sym parts.2.2) parts.2.1 in
-      let frees : HasAdded g u d (Free caller held.place ∷ []) =
-      whole-added g u d release reply.Freed (event_end.freed held.place) (Free caller held.place ∷ []) freed_one (λ words is spent. cc) refl
-      (λ more is. is ∙ ap (λ k. Free k held.place ∷ []) copied_so.moved.same_caller) in
-      let piece = x.calls ++ writes ++ Free caller held.place ∷ [] in
-      let added : HasAdded g c d piece = added-then g c u d (x.calls ++ writes) (Free caller held.place ∷ []) copied_so frees in
-      gone (op.Resize r need) (outcome.Resized words place) (Some held) piece is added
-      (differ, x.asks, words_are, x.calls, x.events, value_of found, copy piece added, refl) (λ is. absurd (cc))
-  op-gone (op.Resize r need) outcome.Refused (Some held) made is (differ, calls) leads =
-      let (piece, added, may, events) = refusal need made calls leads in
-      gone (op.Resize r need) outcome.Refused (Some held) piece is added (differ, may, events) (λ is. absurd (cc))
-  op-gone (op.Resize r need) outcome.Spent (Some held) made is (differ, calls) leads =
-      let (piece, added, row, limit) = spending need made calls leads in
-      gone (op.Resize r need) outcome.Spent (Some held) piece is added (differ, row) (λ is. limit)
-  op-gone (op.Alloc r need v) result None made is calls leads = absurd calls
-  op-gone operation result None made is calls leads = absurd calls
-  op-gone operation result (Some held) made is calls leads = absurd calls

@@ -5,7 +5,8 @@ use Rattle.trace_lane.proofs.Common.{map-append, register_of, held_in, registers
 use Rattle.trace_lane.specs.Scripts.{IsOfNeed}
 use Rattle.trace_lane.proofs.AnswerLemmas.{owned-need}
 use Rattle.trace_lane.proofs.CallerLemmas.{Owns, caller-laws}
-use Rattle.trace_lane.proofs.HoldsLemmas.{HoldsAll, op-holds}
+use Rattle.trace_lane.proofs.EachCall.{HoldsAll}
+use Rattle.trace_lane.proofs.HoldsLemmas.{op-holds}
 
 -- the calls of operations are those of their script, where who makes them owns blocks of needs that there are
 module _ {S : Type 0} {called : S → Call → Reply → S → Type 0} {owns : S → ℕ → Need → Type 0} (laws : KeepBlocks called owns) (stands : S → Type 0) (next : (s t : S) (call : Call) (answer : Reply) → called s call answer t → stands t) (real : (s : S) (place : ℕ) (need : Need) → stands s → owns s place need → IsNeed need) where

@@ -3,11 +3,11 @@ use Rattle.std.proofs.Common.{ℕ, true, false, suc, ◌≡◌, ◌<◌, ◌≤�
 use Rattle.std.specs.Prelude.{◌⊎◌}
 use Rattle.trace_lane.proofs.Common.{Geometry, Need, Event, Ended, EventsOf, HasEnded, IsLegal, Progress, Reply, Ending, IsBusy, IsIdle, Call, ErrandFields, LeadsBy, Made}
 use Rattle.trace_lane.proofs.Common.{IsUnderWay, HasSeenMore, IsMoment, IsServed, REGISTERS, Op, NextCall, HasStepped, HeldBlock, Outcome, LaneState, AllMadeFor, IsMaking}
-use Rattle.trace_lane.proofs.Common.{DoingOf, AreMisses, IsLane, StandsBy, IsOp, Stepped, IsIn, Caller, FitsCall, IsAtRest, IsCall, OwnsFor, Engine, HasAnswered, HasBegun}
-use Rattle.trace_lane.proofs.Common.{HasGoneOn, IsAgain, IsShort, AnswersCall, ComesTo, IsAtHand, IsLaneOf, alloc_answer, alloc, free, write, read, put, take, begun_by}
-use Rattle.trace_lane.proofs.Common.{answered, call_at, calls_in, calls_made, registers_from, option_map, own, own-append, done-told, same-seen, begin_answer, call_of}
-use Rattle.trace_lane.proofs.Common.{begun_count, stage_begun, begun_bound, script_left, leads-split, map-append, length-append, ended_as, leads-more, stage_of, take-none}
-use Rattle.trace_lane.proofs.Common.{at_once, by_steps, new_caller, registers_at, owns-on}
+use Rattle.trace_lane.proofs.Common.{IsLane, StandsBy, IsOp, Stepped, IsIn, Caller, FitsCall, IsAtRest, IsCall, OwnsFor, Engine, HasAnswered, HasBegun}
+use Rattle.trace_lane.proofs.Common.{HasGoneOn, IsAgain, AnswersCall, ComesTo, IsAtHand, IsLaneOf, alloc_answer, alloc, free, write, read, put, take, begun_by}
+use Rattle.trace_lane.proofs.Common.{answered, call_in, calls_in, calls_made, registers_from, option_map, own, own-append, done-told, same-seen, begin_answer, call_of}
+use Rattle.trace_lane.proofs.Common.{begun_count, work_begun, begun_bound, script_left, leads-split, map-append, length-append, ended_as, leads-more, stage_of, take-none}
+use Rattle.trace_lane.proofs.Common.{at_once, by_steps, new_caller, registers_at, work_at, Work, owns-on}
 use Rattle.pool_model.specs.Calls as event_end
 use Rattle.errand_steps.specs.declared.reply.Begun.TheVariants as begun
 use Rattle.errand_steps.specs.declared.reply.Progress.TheVariants as progress
@@ -15,21 +15,20 @@ use Rattle.errand_steps.specs.declared.reply.Reply.TheVariants as reply
 use Rattle.errand_steps.specs.declared.told.Ending.TheVariants as ending
 use Rattle.errand_steps.specs.declared.told.Stepped.TheVariants as stepped
 use Rattle.errand_steps.specs.Told.{stepped_as}
-use Rattle.trace_text.specs.declared.trace.Op.TheVariants as op
 use Rattle.trace_lane.specs.Advances.{IsBefore, IsComing, IsTold, KeepsLane, MayAnswer}
-use Rattle.trace_lane.specs.declared.stage.OperationStage.TheVariants as stage
+use Rattle.trace_lane.specs.declared.work.Work.TheVariants as serving
+use Rattle.trace_lane.specs.Works.{calls_bound, calls_ended}
 use Rattle.trace_lane.proofs.AdvanceLemmas.{Falls}
 use Rattle.trace_lane.proofs.AnswerLemmas.{MayCall, alloc-not_begun, call-begun, goes-on as call-goes_on, settled-of}
 use Rattle.trace_lane.proofs.CallerLemmas.{IsWay, Owns, answers-so, caller-laws, ends-called, in-begun, in-way, moment-from}
 use Rattle.trace_lane.proofs.EndedLemmas.{lane-resting}
-use Rattle.trace_lane.proofs.HoldsLemmas.{HoldsAll, all-hold}
+use Rattle.trace_lane.proofs.EachCall.{HoldsAll}
+use Rattle.trace_lane.proofs.HoldsLemmas.{all-hold}
 use Rattle.trace_lane.proofs.MadeLemmas.{all-made}
-use Rattle.trace_lane.proofs.PartLemmas.{blocks-size}
-use Rattle.trace_lane.proofs.MakingLemmas.{IsAtWork, comes-making, doing-begun, empty, making-work}
-use Rattle.trace_lane.proofs.NeedLemmas.{here-below, left-ends, left-rises, need-words}
+use Rattle.trace_lane.proofs.MakingLemmas.{IsAtWork, comes-making, empty, making-work}
+use Rattle.trace_lane.proofs.NeedLemmas.{here-below, left-ends, left-rises}
 use Rattle.trace_lane.proofs.OwnLemmas.{empty-holds}
-use Rattle.trace_lane.proofs.DoingLemmas.{HasNeed}
-use Rattle.trace_lane.proofs.WorkLemmas.{IsWorking, doing-works}
+use Rattle.trace_lane.proofs.WorkLemmas.{IsWorking, doing-works, few-held, works-begun}
 
 -- what a caller owns it owns still, whatever others did
 pub owns-beside :
@@ -58,20 +57,7 @@ spent-alloc :
 spent-alloc e (alloc words) spent = (words, refl, spent)
 spent-alloc e call spent = absurd (cc)
 
--- a take that begins again had been missed
-misses-last :
-    (shelf : ℕ) (made : List Made) (m : Made) → AreMisses shelf (made ++ m ∷ []) → (expected : ℕ) × (found : ℕ) × (m.answer ≡ reply.Missed expected found)
-misses-last shelf [] m (expected, found, is, rest) = (expected, found, ap (λ (x : Made). x.answer) is)
-misses-last shelf (x ∷ made) m (expected, found, is, rest) = misses-last shelf made m rest
-
-again-so :
-    (before registers now : List (Option HeldBlock)) (operation : Op) (made : List Made) (m : Made) (shelf : ℕ)
-    → DoingOf before now operation stage.Calling (made ++ m ∷ []) → call_at before now operation stage.Calling ≡ take shelf
-    → (call_at before registers operation stage.Calling ≡ take shelf) × (expected : ℕ) × (found : ℕ) × (m.answer ≡ reply.Missed expected found)
-again-so before registers now (op.Take r k) made m shelf doing is =
-    let missed = misses-last k made m doing.2 in (is, missed.0, missed.1, missed.2)
-again-so before registers now operation made m shelf doing is = absurd (cc)
-
+-- a take that missed has added nothing
 missed-none :
     (caller shelf expected found : ℕ) (added : List Event) → HasEnded caller (take shelf) (reply.Missed expected found) added → added ≡ []
 missed-none caller shelf expected found added h =
@@ -79,10 +65,13 @@ missed-none caller shelf expected found added h =
     let same : h.ended.0 ≡ event_end.take_missed = cc in
     subst (λ (x : Ended). EventsOf caller x added) same h.ended.2
 
--- the word of a write is one of those that the largest block has
-short-by : {B : Type 0} (place_of : B → ℕ) (block_need : B → Need) (call : Call) → FitsCall call → HasNeed call → IsShort place_of block_need call
-short-by place_of block_need (write place need i v) fits has = let most = need-words need has in omega (arith, fits, most)
-short-by place_of block_need call fits has = tt
+-- an allocation is the first call of its request
+alloc-few : (at : Work HeldBlock) (words : ℕ) → call_in at ≡ alloc words → calls_ended at < calls_bound
+alloc-few (serving.Filling held v next) words is = absurd (cc)
+alloc-few (serving.Summing held next total) words is = absurd (cc)
+alloc-few (serving.Reading from to next) words is = absurd (cc)
+alloc-few (serving.Writing from to next word) words is = absurd (cc)
+alloc-few at words is = omega arith
 
 -- a step that ended no call
 undone-so :
@@ -98,11 +87,14 @@ module _ {B : Type 0} (engine : Engine B) where
   abbrev pub blocks : LaneState B → List (Option HeldBlock)
   blocks lane = registers_at engine lane.registers.items
 
+  abbrev pub works : LaneState B → Option (Work HeldBlock)
+  works lane = work_at engine lane.work
+
   -- a lane that has kept its room, with what it has made and where its caller stands
   lane-stands :
       (operations : List Op) (old new : LaneState B) (made : List Made) (under : Option Call) (calls : List Call) (f : ErrandFields) (sight : List Event)
       → length operations ≤ vec_capacity old.outcomes → length old.registers.items ≡ REGISTERS → KeepsLane engine.place_of engine.need_of old new
-      → IsMaking operations (blocks new) new.outcomes.items new.stage made under → calls ≡ calls_made made ++ calls_in under
+      → IsMaking operations (blocks new) new.outcomes.items (works new) made under → calls ≡ calls_made made ++ calls_in under
       → StandsBy g old.caller made under (record { errand = f; seen = sight }) → HasSeenMore old.caller sight engine.events
       → IsLaneOf (record engine { errand = f }) operations new calls
   lane-stands operations old new made under calls f sight room size keeps making are stands more = record {
@@ -127,31 +119,30 @@ module _ {B : Type 0} (engine : Engine B) where
   module _ (operations : List Op) (operation : Op) (old new : LaneState B) (present : List Made) (again : Type 0)
       (here : IsAtHand operations old.outcomes.items operation) where
     -- one operation more has begun
-    count-so : (next : Option NextCall) → Comes operations operation old present next new → begun_count new.outcomes.items new.stage ≡ length old.outcomes.items + 1
-    count-so (Some call) (same, doing, is) =
-        let some = doing-begun (registers_from empty operations old.outcomes.items) (blocks new) operation new.stage present doing in
-        ap (λ os. begun_count os new.stage) same ∙ omega (arith, some)
+    count-so : (next : Option NextCall) → Comes operations operation old present next new → begun_count new.outcomes.items new.work ≡ length old.outcomes.items + 1
+    count-so (Some call) (same, at, at_is, doing, is) =
+        let some = works-begun engine.place_of engine.need_of new.work at at_is in ap (λ os. begun_count os new.work) same ∙ omega (arith, some)
     count-so None (result, outcomes, between, for, registers) =
         let longer = length-append old.outcomes.items (result ∷ []) in
-        ap (λ os. begun_count os new.stage) outcomes ∙ ap (λ at. begun_count (old.outcomes.items ++ result ∷ []) at) between ∙ omega (arith, longer)
+        ap (λ os. begun_count os new.work) outcomes ∙ ap (λ at. begun_count (old.outcomes.items ++ result ∷ []) at) between ∙ omega (arith, longer)
 
     -- less is left of the script, but where the operation stays where it is
     falls-so :
-        (next : Option NextCall) → Comes operations operation old present next new → stage_begun old.stage < begun_bound
-        → ((call : NextCall) → next ≡ Some call → (stage_begun old.stage < stage_begun new.stage) ⊎ ((new.stage ≡ old.stage) × again))
-        → Falls operations old new ⊎ ((new.outcomes.items ≡ old.outcomes.items) × (new.stage ≡ old.stage) × again)
-    falls-so (Some call) (same, doing, is) few goes =
+        (next : Option NextCall) → Comes operations operation old present next new → work_begun old.work < begun_bound
+        → ((call : NextCall) → next ≡ Some call → (work_begun old.work < work_begun new.work) ⊎ ((new.work ≡ old.work) × again))
+        → Falls operations old new ⊎ ((new.outcomes.items ≡ old.outcomes.items) × (new.work ≡ old.work) × again)
+    falls-so (Some call) (same, at, at_is, doing, is) few goes =
         elim (goes call refl) [
           | inl rises ↦ inl
-              (subst (λ os. script_left operations os new.stage < script_left operations old.outcomes.items old.stage) (sym same)
-              (left-rises operations here.0 old.outcomes.items operation old.stage new.stage here.1 rises few))
+              (subst (λ os. script_left operations os new.work < script_left operations old.outcomes.items old.work) (sym same)
+              (left-rises operations here.0 old.outcomes.items operation old.work new.work here.1 rises few))
           | inr stays ↦ inr (same, stays.0, stays.1)
         ]
     falls-so None (result, outcomes, between, for, registers) few goes =
         inl
-        (subst (λ os. script_left operations os new.stage < script_left operations old.outcomes.items old.stage) (sym outcomes)
-        (subst (λ to. script_left operations (old.outcomes.items ++ result ∷ []) to < script_left operations old.outcomes.items old.stage) (sym between)
-        (left-ends operations here.0 old.outcomes.items operation result old.stage here.1 few)))
+        (subst (λ os. script_left operations os new.work < script_left operations old.outcomes.items old.work) (sym outcomes)
+        (subst (λ to. script_left operations (old.outcomes.items ++ result ∷ []) to < script_left operations old.outcomes.items old.work) (sym between)
+        (left-ends operations here.0 old.outcomes.items operation result old.work here.1 few)))
 
   -- the registers hold blocks of the caller's between two operations
   holds-between :
@@ -177,7 +168,7 @@ module _ {B : Type 0} (engine : Engine B) where
         → StandsBy g old.caller (k.past ++ present) (option_map call_of to) (record { errand = f; seen = k.sight })
         → calls ++ calls_in begun ≡ calls_made (k.past ++ present) ++ calls_in (option_map call_of to)
         → ((call : NextCall) → to ≡ Some call
-        → (stage_begun old.stage < stage_begun new.stage) ⊎ ((new.stage ≡ old.stage) × IsAgain old.caller seen e engine.events begun))
+        → (work_begun old.work < work_begun new.work) ⊎ ((new.work ≡ old.work) × IsAgain old.caller seen e engine.events begun))
         → HasGoneOn (record engine { errand = f }) seen e begun operations calls old new
     comes-on to new present begun f comes keeps stands are goes = record {
       stands =
@@ -206,11 +197,10 @@ module _ {B : Type 0} (engine : Engine B) where
 
       pub coming-may : IsOp operation → MayBeginNow
       coming-may is_op =
-          let (same, doing, is) = comes-some in
-          let size = blocks-size engine.place_of engine.need_of mid.registers.items ∙ k.keeps.size ∙ k.size in
+          let (same, at, at_is, doing, is) = comes-some in
           let parts = leads-split (IsCall g) (new_caller old.caller g) now k.past k.present k.leads in
           let holds = holds-between operations old.outcomes.items old.caller k.past parts.0 parts.1 k.ended in
-          let works = doing-works g before (blocks mid) parts.0 now holds operation mid.stage k.present size is_op doing parts.2 k.rests.served.legal in
+          let works = doing-works g before (blocks mid) parts.0 now holds operation at k.present is_op doing parts.2 k.rests.served.legal in
           let owned_call = subst (λ c. OwnsFor k.sight engine.errand.caller c) (sym is) works.owned in
           record {
             idle = k.rests.idle;
@@ -235,17 +225,22 @@ module _ {B : Type 0} (engine : Engine B) where
 
       -- its allocation found no turn left: that may be answered, and has been
       module _ (is_spent : begin_answer engine.errand (call_of call) ≡ begun.Spent) where
-        abbrev under : Call
-        under = call_at before (blocks mid) operation mid.stage
-
-        spent-so : AnswersCall engine.place_of engine.need_of under ending.Spent × IsShort engine.place_of engine.need_of under
+        spent-so : AnswersCall engine.place_of engine.need_of (call_in comes-some.1) ending.Spent × (calls_ended comes-some.1 < calls_bound)
         spent-so =
             let (words, is_alloc, spent) = spent-alloc engine.errand (call_of call) is_spent in
-            subst (λ c. AnswersCall engine.place_of engine.need_of c ending.Spent × IsShort engine.place_of engine.need_of c)
-            (sym (sym comes-some.2 ∙ is_alloc)) (tt, tt)
+            let here : call_in comes-some.1 ≡ alloc words = sym comes-some.4 ∙ is_alloc in
+            (subst (λ c. AnswersCall engine.place_of engine.need_of c ending.Spent) (sym here) tt, alloc-few comes-some.1 words here)
 
         pub spent-may : MayAnswer engine.place_of engine.need_of operation ending.Spent mid
-        spent-may = record { before = before; made = k.present; doing = comes-some.1; answers = spent-so.0; short = spent-so.1 }
+        spent-may = record {
+          before = before;
+          made = k.present;
+          at = comes-some.1;
+          at_is = comes-some.2;
+          doing = comes-some.3;
+          answers = spent-so.0;
+          few = spent-so.1;
+        }
 
         pub coming-room : length mid.outcomes.items < vec_capacity mid.outcomes
         coming-room =
@@ -260,13 +255,13 @@ module _ {B : Type 0} (engine : Engine B) where
             → HasGoneOn (record engine { errand = begun_by engine.errand (call_of call) }) seen e (Some (call_of call)) operations calls old new
         coming-spent new to may answers =
             let (words, is_alloc, spent) = spent-alloc engine.errand (call_of call) is_spent in
-            let (same, doing, is) = comes-some in
+            let (same, at, at_is, doing, is) = comes-some in
             let one : Made = answered (call_of call) reply.Spent in
             let comes : Comes operations operation old (k.present ++ one ∷ []) None new =
             subst (λ c. Comes operations operation old (k.present ++ answered c reply.Spent ∷ []) None new) (sym is)
-            (subst (λ os. ComesTo engine.place_of engine.need_of operation before os (k.present ++ answered under reply.Spent ∷ []) None new) same
-            (subst (λ n. ComesTo engine.place_of engine.need_of operation before mid.outcomes.items (k.present ++ answered under reply.Spent ∷ []) n new)
-            (answers.over refl) (answers.comes before k.present doing spent-so.0))) in
+            (subst (λ os. ComesTo engine.place_of engine.need_of operation before os (k.present ++ answered (call_in at) reply.Spent ∷ []) None new) same
+            (subst (λ n. ComesTo engine.place_of engine.need_of operation before mid.outcomes.items (k.present ++ answered (call_in at) reply.Spent ∷ []) n new)
+            (answers.over refl) (answers.comes before k.present at at_is doing))) in
             let keeps : KeepsLane engine.place_of engine.need_of old new = record {
               caller = answers.keeps.caller ∙ k.keeps.caller;
               size = answers.keeps.size ∙ k.keeps.size;
@@ -289,7 +284,7 @@ module _ {B : Type 0} (engine : Engine B) where
       → IsBefore engine operation operations calls lane → HasBegun engine.place_of engine.need_of operation lane next new
       → IsComing engine seen e operation next operations calls lane new
   begins-coming {operation = operation} {next = next} {operations = operations} {lane = lane} {new = new} seen e b h =
-      let resting = lane-resting b.stands.stands b.between in
+      let resting = lane-resting b.stands.stands (ap (work_at engine) b.between) in
       let nothing = append-nil resting.made in
       let comes : Comes operations operation lane [] next new =
       subst (λ rs. ComesTo engine.place_of engine.need_of operation rs lane.outcomes.items [] next new) resting.registers_are h.comes in
@@ -308,11 +303,10 @@ module _ {B : Type 0} (engine : Engine B) where
         others = resting.others;
         served = b.served;
         begun = resting.calls_are ∙ ap calls_made (sym nothing);
-        few = subst (λ at. stage_begun at < begun_bound) (sym b.between) (omega arith);
+        few = subst (λ at. work_begun at < begun_bound) (sym b.between) (omega arith);
         rises = λ call is.
             let first = subst (λ n. Comes operations operation lane [] n new) is comes in
-            inl (subst (λ at. stage_begun at < stage_begun new.stage) (sym b.between)
-            (doing-begun (registers_from empty operations lane.outcomes.items) (blocks new) operation new.stage [] first.1));
+            inl (subst (λ at. work_begun at < work_begun new.work) (sym b.between) (works-begun engine.place_of engine.need_of new.work first.1 first.2));
         size = b.stands.size;
         room = b.stands.room;
       }
@@ -320,7 +314,7 @@ module _ {B : Type 0} (engine : Engine B) where
   -- a step of the operation's call was made
   module _ {operation : Op} {told : Stepped B} {seen : List Event} {e : ErrandFields} {operations : List Op} {calls : List Call} {lane : LaneState B}
       (t : IsTold engine operation told seen e operations calls lane) where
-    abbrev pub told-stands : IsLane g lane.caller seen e operations (blocks lane) lane.outcomes.items lane.stage calls
+    abbrev pub told-stands : IsLane g lane.caller seen e operations (blocks lane) lane.outcomes.items (works lane) calls
     told-stands = t.stood.stands
 
     told-number : e.caller ≡ lane.caller
@@ -353,13 +347,13 @@ module _ {B : Type 0} (engine : Engine B) where
     pub calling : IsCalling
     calling = calling-by told-stands.under refl told-stands.stands
 
-    pub work : IsAtWork operations (blocks lane) lane.outcomes.items operation lane.stage told-stands.made told-stands.under
+    pub work : IsAtWork operations (blocks lane) lane.outcomes.items operation (works lane) told-stands.made told-stands.under
     work =
-        making-work operations (blocks lane) lane.outcomes.items lane.stage told-stands.made told-stands.under operation t.next
+        making-work operations (blocks lane) lane.outcomes.items (works lane) told-stands.made told-stands.under operation t.next
         (λ none. let both : Some calling.call ≡ None = sym calling.under ∙ none in cc) told-stands.making
 
     abbrev pub here : Call
-    here = call_at (registers_from empty operations lane.outcomes.items) (blocks lane) operation lane.stage
+    here = call_in work.work
 
     call-is : calling.call ≡ here
     call-is = let both : Some calling.call ≡ Some here = sym calling.under ∙ work.call in cc
@@ -387,12 +381,12 @@ module _ {B : Type 0} (engine : Engine B) where
           on = (before-step, stepped_as engine.place_of engine.need_of told, calling.is_in.on, m, goes.busy);
           busy = goes.busy;
         } in
-        let some = doing-begun (registers_from empty operations lane.outcomes.items) (blocks lane) operation lane.stage work.present work.doing in
+        let some = works-begun engine.place_of engine.need_of lane.work work.work work.at_is in
         record {
           stands =
               lane-stands operations lane lane told-stands.made (Some calling.call) (calls ++ []) engine.errand engine.events t.stood.room t.stood.size
               (record { caller = refl; size = refl; room = refl })
-              (subst (λ u. IsMaking operations (blocks lane) lane.outcomes.items lane.stage told-stands.made u) calling.under told-stands.making)
+              (subst (λ u. IsMaking operations (blocks lane) lane.outcomes.items (works lane) told-stands.made u) calling.under told-stands.making)
               (append-nil calls ∙ told-stands.begun ∙ ap (λ u. calls_made told-stands.made ++ calls_in u) calling.under)
               (calling.last, calling.leads, calling.rests, calling.owned, now_in) (same-seen lane.caller engine.events engine.events refl);
           falls = inr (refl, refl, inl refl);
@@ -442,24 +436,26 @@ module _ {B : Type 0} (engine : Engine B) where
       holds-past : HoldsAll Owns past-leads.0 (registers_from empty operations lane.outcomes.items)
       holds-past = holds-between operations lane.outcomes.items lane.caller work.past past-leads.0 past-leads.1 work.ended
 
-      works-here : IsOp operation → IsWorking calling.last.seen calling.last.errand.caller here lane.stage work.present
+      works-here : IsOp operation → IsWorking calling.last.seen calling.last.errand.caller work.work
       works-here is_op =
-          doing-works g (registers_from empty operations lane.outcomes.items) (blocks lane) past-leads.0 calling.last holds-past operation lane.stage work.present
-          (blocks-size engine.place_of engine.need_of lane.registers.items ∙ t.stood.size) is_op work.doing past-leads.2 calling.rests.served.legal
+          doing-works g (registers_from empty operations lane.outcomes.items) (blocks lane) past-leads.0 calling.last holds-past operation work.work
+          work.present is_op work.doing past-leads.2 calling.rests.served.legal
 
       answers-here : IsOp operation → AnswersCall engine.place_of engine.need_of here ended
       answers-here is_op =
           subst (λ c. AnswersCall engine.place_of engine.need_of c ended) call-is
-          (answers-so engine.place_of engine.need_of g e engine.errand told-stands.sight engine.events way.added t.still_served.legal calling.call ended
+          (answers-so engine.place_of engine.need_of e engine.errand told-stands.sight engine.events way.added calling.call ended
           (subst FitsCall (sym call-is) (works-here is_op).fits) way.under_way done-from)
 
       pub told-may : IsOp operation → MayAnswer engine.place_of engine.need_of operation ended lane
       told-may is_op = record {
         before = registers_from empty operations lane.outcomes.items;
         made = work.present;
+        at = work.work;
+        at_is = work.at_is;
         doing = work.doing;
         answers = answers-here is_op;
-        short = short-by engine.place_of engine.need_of here (works-here is_op).fits (works-here is_op).has;
+        few = (works-here is_op).few;
       }
 
       abbrev pub present-after : List Made
@@ -471,24 +467,17 @@ module _ {B : Type 0} (engine : Engine B) where
           ∙ ap (λ c. work.past ++ (work.present ++ answered c answer ∷ [])) call-is
 
       comes :
-          (is_op : IsOp operation) (next : Option NextCall) (new : LaneState B)
-          → HasAnswered engine.place_of engine.need_of operation ended lane next new → Comes operations operation lane present-after next new
-      comes is_op next new answers =
-          answers.comes (registers_from empty operations lane.outcomes.items) work.present work.doing (answers-here is_op)
+          (next : Option NextCall) (new : LaneState B) → HasAnswered engine.place_of engine.need_of operation ended lane next new → Comes operations operation lane present-after next new
+      comes next new answers = answers.comes (registers_from empty operations lane.outcomes.items) work.present work.work work.at_is work.doing
 
       -- a take that is tried again was missed, and has added no event
       again-missed :
-          (call : NextCall) (new : LaneState B) → IsOp operation → HasAnswered engine.place_of engine.need_of operation ended lane (Some call) new
-          → (shelf : ℕ) → call_of call ≡ take shelf → lane.stage ≡ stage.Calling → new.stage ≡ stage.Calling
+          (shelf expected found : ℕ) → lane.work ≡ Some (serving.Taking shelf) → answer ≡ reply.Missed expected found
           → (own lane.caller engine.events ≡ own lane.caller seen) × IsUnderWay lane.caller (take shelf) e.point []
-      again-missed call new is_op answers shelf is_take at_was at_now =
-          let before = registers_from empty operations lane.outcomes.items in
-          let (same, doing, is) = comes is_op (Some call) new answers in
-          let doing_so = subst (λ at. DoingOf before (blocks new) operation at present-after) at_now doing in
-          let take_so : call_at before (blocks new) operation stage.Calling ≡ take shelf =
-          ap (call_at before (blocks new) operation) (sym at_now) ∙ sym is ∙ is_take in
-          let (here_so, expected, found, missed) = again-so before (blocks lane) (blocks new) operation work.present (answered here answer) shelf doing_so take_so in
-          let call_take : calling.call ≡ take shelf = call-is ∙ ap (call_at before (blocks lane) operation) at_was ∙ here_so in
+      again-missed shelf expected found at_was missed =
+          let same : work.work ≡ serving.Taking shelf =
+          let both : Some work.work ≡ Some (serving.Taking shelf) = sym work.at_is ∙ ap (work_at engine) at_was in cc in
+          let call_take : calling.call ≡ take shelf = call-is ∙ ap call_in same in
           let under : IsUnderWay e.caller (take shelf) e.point way.added = subst (λ c. IsUnderWay e.caller c e.point way.added) call_take way.under_way in
           let none : way.added ≡ [] = take-none e.caller shelf (stage_of e.point) way.added under in
           let h = ends-called g calling.last after-step calling.call answer calling.rests calling.owned
@@ -522,7 +511,7 @@ module _ {B : Type 0} (engine : Engine B) where
         past = work.past;
         present = present-after;
         ended = work.ended;
-        comes = comes is_op next new answers;
+        comes = comes next new answers;
         keeps = answers.keeps;
         sight = engine.events;
         leads = subst (λ ms. LeadsBy (IsCall g) (new_caller lane.caller g) ms after-step) made-after leads-after;
@@ -532,14 +521,14 @@ module _ {B : Type 0} (engine : Engine B) where
         begun =
             told-stands.begun ∙ ap (λ u. calls_made told-stands.made ++ calls_in u) calling.under
             ∙ sym (map-append (λ (m : Made). m.call) told-stands.made (answered calling.call answer ∷ [])) ∙ ap calls_made made-after;
-        few = (works-here is_op).few;
+        few = few-held engine.place_of engine.need_of lane.work work.work work.at_is (works-here is_op).few;
         rises = λ call is.
             let so = subst (λ n. HasAnswered engine.place_of engine.need_of operation ended lane n new) is answers in
-            elim so.rises [
+            elim so.further [
               | inl rises ↦ inl rises
-              | inr again ↦
-                  let missed = again-missed call new is_op so again.0 again.1 again.2 again.3 in
-                  inr (again.3 ∙ sym again.2, inr (again.0, ap Some again.1, missed.0, missed.1))
+              | inr (shelf, is_take, was, now, expected, found, missed) ↦
+                  let so_far = again-missed shelf expected found was missed in
+                  inr (now ∙ sym was, inr (shelf, ap Some is_take, so_far.0, so_far.1))
             ];
         size = t.stood.size;
         room = t.stood.room;

@@ -8,8 +8,10 @@ use Rattle.lane_outcomes.proofs.FitLemmas.{row-later}
 use Rattle.trace_lane.proofs.AddedLemmas.{HasAdded}
 use Rattle.trace_lane.proofs.AnswerLemmas.{HasMovedOn}
 use Rattle.trace_lane.proofs.CallerLemmas.{Owns, caller-laws, moved-none, moved-then}
-use Rattle.trace_lane.proofs.HoldsLemmas.{HoldsAll, op-holds}
-use Rattle.trace_lane.proofs.RowLemmas.{IsBetween, op-gone, setting_at}
+use Rattle.trace_lane.proofs.EachCall.{HoldsAll}
+use Rattle.trace_lane.proofs.HoldsLemmas.{op-holds}
+use Rattle.trace_lane.proofs.OperationLemmas.{op-gone}
+use Rattle.trace_lane.proofs.RowLemmas.{IsBetween, setting_at}
 use Rattle.trace_lane.proofs.TurnLemmas.{answered_in, answered-row}
 
 spent-still : (spent : Bool) (result : Outcome) (all : Type 0) → (spent ≡ true → all) → (result ≡ outcome.Spent → all) → spent_after spent result ≡ true → all

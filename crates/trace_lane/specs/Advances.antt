@@ -1,14 +1,15 @@
 -- What the parts of an advance do: what is said of the lane's calls, and what of the machine.
-use Rattle.std.specs.Prelude.{ℕ, ◌≡◌, ◌≢◌, ◌<◌, ◌≤◌, ◌+◌, ◌%◌, ◌^◌, ◌∷◌, ◌++◌, ◌⊎◌, List, [], Bool, Option, Some, None, drop, length, replicate, nat_lt, count_by, All, vec_capacity, if◌then◌else◌}
-use Rattle.heap_geometry.specs.declared.limits.TheConstants.{LARGE_MOST}
+use Rattle.std.specs.Prelude.{ℕ, ◌≡◌, ◌≢◌, ◌<◌, ◌≤◌, ◌+◌, ◌*◌, ◌∷◌, ◌++◌, ◌⊎◌, List, [], Bool, Option, Some, None, drop, length, replicate, count_by, All, vec_capacity, if◌then◌else◌}
+use Rattle.std.specs.Option.{option_map}
 use Rattle.heap_geometry.specs.declared.need.Need.{Need}
-use Rattle.heap_geometry.specs.Need.{need_of, usable_words}
 use Rattle.pool_model.specs.declared.event.Event.{Event}
 use Rattle.pool_model.specs.Histories.{own}
+use Rattle.errand_steps.specs.declared.reply.Reply.{Reply}
+use Rattle.errand_steps.specs.declared.reply.Reply.TheVariants as reply
 use Rattle.errand_steps.specs.declared.told.Ending.{Ending}
 use Rattle.errand_steps.specs.declared.told.Ending.TheVariants as ending
 use Rattle.errand_steps.specs.declared.told.Stepped.{Stepped}
-use Rattle.errand_steps.specs.Calls.{Call, alloc, free, write, read, put, take}
+use Rattle.errand_steps.specs.Calls.{Call, take}
 use Rattle.errand_steps.specs.Errands.{ErrandFields}
 use Rattle.errand_steps.specs.Told.{ended_as}
 use Rattle.sound_laws.specs.events.Made.{LeadsBy, Made, answered}
@@ -26,83 +27,74 @@ use Rattle.lane_engine.specs.Callers.{IsAtRest, IsCall, new_caller}
 use Rattle.lane_engine.specs.Engines.{Engine, machine_at}
 use Rattle.lane_engine.specs.Machines.{MovesCore}
 use Rattle.lane_engine.specs.Told.{HasStepped}
-use Rattle.lane_outcomes.specs.Deeds.{register_of}
+use Rattle.trace_text.specs.Operations.{register_of}
 use Rattle.lane_outcomes.specs.declared.registers.HeldBlock.{HeldBlock}
 use Rattle.lane_outcomes.specs.declared.outcome.Outcome.{Outcome}
 use Rattle.lane_outcomes.specs.Lane.{held_in, registers_after}
 use Rattle.trace_lane.specs.declared.lane.LaneState.{LaneState}
-use Rattle.trace_lane.specs.declared.stage.OperationStage.{OperationStage}
-use Rattle.trace_lane.specs.declared.stage.OperationStage.TheVariants as stage
+use Rattle.trace_lane.specs.declared.request.Next.{Next}
+use Rattle.trace_lane.specs.declared.request.Next.TheVariants as onward
+use Rattle.trace_lane.specs.declared.request.Request.{Request}
+use Rattle.trace_lane.specs.declared.work.Work.{Work}
+use Rattle.trace_lane.specs.declared.work.Work.TheVariants as work
+use Rattle.trace_lane.specs.Made.{IsLater, IsNext}
 use Rattle.trace_lane.specs.Begun.{calls_of}
-use Rattle.trace_lane.specs.Doing.{AllMadeFor}
-use Rattle.trace_lane.specs.Made.{DoingOf, MadeFor, call_at, calls_in, calls_made, registers_from}
-use Rattle.trace_lane.specs.Paths.{FirstPassed, IsBy, MovesLead, begun_count, held_blocks, stage_begun}
-use Rattle.trace_lane.specs.Scripts.{begun_bound, script_left}
+use Rattle.trace_lane.specs.Doing.{AllMadeFor, DoingOf}
+use Rattle.trace_lane.specs.Made.{MadeFor, calls_in, calls_made, registers_from}
+use Rattle.trace_lane.specs.Paths.{FirstPassed, IsBy, MovesLead, held_blocks}
+use Rattle.trace_lane.specs.Requests.{next_held}
+use Rattle.trace_lane.specs.Scripts.{begun_bound, begun_count, script_left}
 use Rattle.trace_lane.specs.States.{IsLaneOf, IsLaneOn, StandsOn}
+use Rattle.trace_lane.specs.Works.{AnswersCall, call_in, calls_bound, calls_ended, rank, work_begun, work_held}
 
 -- the operation at hand, where these have their outcomes, is this one
 abbrev pub IsAtHand : List Op → List Outcome → Op → Type 0
 IsAtHand operations results operation = (rest : List Op) × (drop (length results) operations ≡ operation ∷ rest)
 
--- the word behind the one whose write or read is under way, if the block has so many
-abbrev pub behind : ℕ → ℕ → Option ℕ
-behind next words = if nat_lt (next + 1) words then Some (next + 1) else None
-
-abbrev pub word_behind : OperationStage → ℕ → Option ℕ
-word_behind (stage.Filling next) words = behind next words
-word_behind (stage.Summing next total) words = behind next words
-word_behind (stage.Copying old next word) words = behind next words
-word_behind at words = None
-
--- the sum of the words so far, with one more
-abbrev pub total_with : OperationStage → ℕ → ℕ
-total_with (stage.Summing next total) word = (total + word) % 2 ^ 64
-total_with at word = word
-
 module _ {B : Type 0} (place_of : B → ℕ) (block_need : B → Need) where
   abbrev pub blocks_of : LaneState B → List (Option HeldBlock)
   blocks_of lane = held_blocks place_of block_need lane.registers.items
 
-  -- a call of these answers so: with an answer of its own, a block that serves what was asked for, and the block back that a full shelf didn't take
-  abbrev pub AnswersCall : Call → Ending B → Type 0
-  AnswersCall (alloc words) (ending.Given block) = (block_need block ≡ need_of words) × (0 < usable_words (need_of words))
-  AnswersCall (alloc words) ending.Refused = Unit {0}
-  AnswersCall (alloc words) ending.Spent = Unit {0}
-  AnswersCall (free place need) ending.Freed = Unit {0}
-  AnswersCall (write place need i value) ending.Wrote = i < usable_words need
-  AnswersCall (read place need i) (ending.Word word) = i < usable_words need
-  AnswersCall (put place need shelf) ending.Put = Unit {0}
-  AnswersCall (put place need shelf) (ending.Full block found) = (place_of block ≡ place) × (block_need block ≡ need)
-  AnswersCall (take shelf) (ending.Got block) = Unit {0}
-  AnswersCall (take shelf) ending.Empty = Unit {0}
-  AnswersCall (take shelf) (ending.Missed expected found) = Unit {0}
-  AnswersCall call ended = ⊥
-
-  -- the word that a write is about is one of those that the largest block has
-  abbrev pub IsShort : Call → Type 0
-  IsShort (write place need i value) = i < LARGE_MOST
-  IsShort call = Unit {0}
+  abbrev pub work_of : LaneState B → Option (Work HeldBlock)
+  work_of lane = option_map (work_held place_of block_need) lane.work
 
   -- the operation has ended these calls: it has its outcome where it has no call more, else that call is the next one
   abbrev pub ComesTo : Op → List (Option HeldBlock) → List Outcome → List Made → Option NextCall → LaneState B → Type 0
   ComesTo operation before results made None lane =
-      (result : Outcome) × (lane.outcomes.items ≡ results ++ result ∷ []) × (lane.stage ≡ stage.Between)
+      (result : Outcome) × (lane.outcomes.items ≡ results ++ result ∷ []) × (lane.work ≡ None)
       × MadeFor (held_in before (register_of operation)) operation result made
       × (blocks_of lane ≡ registers_after before operation result)
   ComesTo operation before results made (Some call) lane =
-      (lane.outcomes.items ≡ results) × DoingOf before (blocks_of lane) operation lane.stage made
-      × (call_of call ≡ call_at before (blocks_of lane) operation lane.stage)
+      (lane.outcomes.items ≡ results) × (at : Work HeldBlock) × (work_of lane ≡ Some at)
+      × DoingOf before (blocks_of lane) operation (Some at) made × (call_of call ≡ call_in at)
 
   -- a call more is further on in the operation; but a take that missed is tried again where it stands
-  abbrev pub Rises : OperationStage → Option NextCall → OperationStage → Type 0
-  Rises at None to = Unit {0}
-  Rises at (Some call) to = (stage_begun at < stage_begun to) ⊎ ((shelf : ℕ) × (call_of call ≡ take shelf) × (at ≡ stage.Calling) × (to ≡ stage.Calling))
+  abbrev pub IsFurther : LaneState B → Reply → Option NextCall → LaneState B → Type 0
+  IsFurther old told None new = Unit {0}
+  IsFurther old told (Some call) new =
+      (work_begun old.work < work_begun new.work)
+      ⊎ ((shelf : ℕ) × (call_of call ≡ take shelf) × (old.work ≡ Some (work.Taking shelf)) × (new.work ≡ Some (work.Taking shelf))
+      × (expected : ℕ) × (found : ℕ) × (told ≡ reply.Missed expected found))
 
   -- what both leave as it is
   pub record KeepsLane (old new : LaneState B) : Type 0 where
     pub caller : new.caller ≡ old.caller
     pub size : length new.registers.items ≡ length old.registers.items
     pub room : vec_capacity new.outcomes ≡ vec_capacity old.outcomes
+
+  -- an operation goes on so: with the first call of what it asks for, or with its outcome
+  pub record TakesUp (next : Next B) (old : LaneState B) (call : Option NextCall) (new : LaneState B) : Type 0 where
+    pub caller : new.caller ≡ old.caller
+    pub registers : new.registers ≡ old.registers
+    pub room : vec_capacity new.outcomes ≡ vec_capacity old.outcomes
+    pub comes :
+        (operation : Op) (before : List (Option HeldBlock)) (made : List Made)
+        → IsNext before operation (next_held place_of block_need next) made (blocks_of old)
+        → ComesTo operation before old.outcomes.items made call new
+    pub later :
+        (asked : Request HeldBlock) (some : NextCall) → call ≡ Some some → IsLater asked (next_held place_of block_need next)
+        → rank asked * calls_bound + calls_bound < work_begun new.work
+    pub asks : (some : NextCall) → call ≡ Some some → (asked : Request HeldBlock) × (next_held place_of block_need next ≡ onward.Ask asked)
 
   -- an operation begins
   pub record HasBegun (operation : Op) (old : LaneState B) (next : Option NextCall) (new : LaneState B) : Type 0 where
@@ -113,19 +105,20 @@ module _ {B : Type 0} (place_of : B → ℕ) (block_need : B → Need) where
   pub record MayAnswer (operation : Op) (ended : Ending B) (lane : LaneState B) : Type 0 where
     pub before : List (Option HeldBlock)
     pub made : List Made
-    pub doing : DoingOf before (blocks_of lane) operation lane.stage made
-    pub answers : AnswersCall (call_at before (blocks_of lane) operation lane.stage) ended
-    pub short : IsShort (call_at before (blocks_of lane) operation lane.stage)
+    pub at : Work HeldBlock
+    pub at_is : work_of lane ≡ Some at
+    pub doing : DoingOf before (blocks_of lane) operation (Some at) made
+    pub answers : AnswersCall place_of block_need (call_in at) ended
+    pub few : calls_ended at < calls_bound
 
   pub record HasAnswered (operation : Op) (ended : Ending B) (old : LaneState B) (next : Option NextCall) (new : LaneState B) : Type 0 where
     pub keeps : KeepsLane old new
-    pub rises : Rises old.stage next new.stage
+    pub further : IsFurther old (ended_as place_of block_need ended) next new
     pub over : ended ≡ ending.Spent → next ≡ None
     pub comes :
-        (before : List (Option HeldBlock)) (made : List Made) → DoingOf before (blocks_of old) operation old.stage made
-        → AnswersCall (call_at before (blocks_of old) operation old.stage) ended
-        → ComesTo operation before old.outcomes.items
-        (made ++ answered (call_at before (blocks_of old) operation old.stage) (ended_as place_of block_need ended) ∷ []) next new
+        (before : List (Option HeldBlock)) (made : List Made) (at : Work HeldBlock) → work_of old ≡ Some at
+        → DoingOf before (blocks_of old) operation (Some at) made
+        → ComesTo operation before old.outcomes.items (made ++ answered (call_in at) (ended_as place_of block_need ended) ∷ []) next new
 
 -- a caller of a machine began this call, or did nothing
 abbrev pub BeganAtMost : ℕ → Option Call → CoreFields → CoreFields → Type 0
@@ -141,7 +134,7 @@ IsAgain caller seen e now begun =
 -- a lane of these operations, which has begun these calls, is between two of them, and this one is the next
 pub record IsBefore {B : Type 0} (engine : Engine B) (operation : Op) (operations : List Op) (calls : List Call) (lane : LaneState B) : Type 0 where
   pub next : IsAtHand operations lane.outcomes.items operation
-  pub between : lane.stage ≡ stage.Between
+  pub between : lane.work ≡ None
   pub stands : IsLaneOf engine operations lane calls
   pub served : IsServed engine.geometry lane.caller engine.errand engine.events
 
@@ -171,11 +164,11 @@ pub record IsComing {B : Type 0} (engine : Engine B) (seen : List Event) (e : Er
   pub others : HasSeenMore old.caller sight engine.events
   pub served : IsServed engine.geometry old.caller engine.errand engine.events
   pub begun : calls ≡ calls_made (past ++ present)
-  pub few : stage_begun old.stage < begun_bound
+  pub few : work_begun old.work < begun_bound
   pub rises :
       (call : NextCall) → next ≡ Some call
-      → (stage_begun old.stage < stage_begun new.stage)
-      ⊎ ((new.stage ≡ old.stage) × IsAgain old.caller seen e engine.events (Some (call_of call)))
+      → (work_begun old.work < work_begun new.work)
+      ⊎ ((new.work ≡ old.work) × IsAgain old.caller seen e engine.events (Some (call_of call)))
   pub size : length old.registers.items ≡ REGISTERS
   pub room : length operations ≤ vec_capacity old.outcomes
 
@@ -184,9 +177,9 @@ pub record HasGoneOn {B : Type 0} (engine : Engine B) (seen : List Event) (e : E
     (old new : LaneState B) : Type 0 where
   pub stands : IsLaneOf engine operations new (calls ++ calls_in begun)
   pub falls :
-      (script_left operations new.outcomes.items new.stage < script_left operations old.outcomes.items old.stage)
-      ⊎ ((new.outcomes.items ≡ old.outcomes.items) × (new.stage ≡ old.stage) × IsAgain old.caller seen e engine.events begun)
-  pub count : begun_count new.outcomes.items new.stage ≡ length old.outcomes.items + 1
+      (script_left operations new.outcomes.items new.work < script_left operations old.outcomes.items old.work)
+      ⊎ ((new.outcomes.items ≡ old.outcomes.items) × (new.work ≡ old.work) × IsAgain old.caller seen e engine.events begun)
+  pub count : begun_count new.outcomes.items new.work ≡ length old.outcomes.items + 1
 
 -- a lane went on over a machine without a step, whatever its operations are, if they and the lane were ready for that
 pub record LaneGoesOn (ready : List Event → ErrandFields → List Op → List Call → LaneState Grip → Type 0) (old new : CoreFields)
@@ -232,8 +225,8 @@ pub record HasAdvanced (before after : CoreFields) (caller : ℕ) (operations : 
       (calls : List Call) → IsLaneOn before operations old calls
       → IsLaneOn after operations new (calls ++ calls_of caller moves)
   pub goes_on :
-      (script_left operations new.outcomes.items new.stage < script_left operations old.outcomes.items old.stage)
-      ⊎ ((new.outcomes.items ≡ old.outcomes.items) × (new.stage ≡ old.stage) × (StaysInCall caller before after moves ⊎ (moves ≡ [])))
+      (script_left operations new.outcomes.items new.work < script_left operations old.outcomes.items old.work)
+      ⊎ ((new.outcomes.items ≡ old.outcomes.items) × (new.work ≡ old.work) × (StaysInCall caller before after moves ⊎ (moves ≡ [])))
 
 -- a lane of these operations has gone on over a machine, by one step where it made one and by none else: it stands, no other caller moved, and what it has begun has passed the gate
 pub record AdvancesOn (passed : ℕ → ℕ → Type 0) (operations : List Op) (old new : CoreFields) (lane after : LaneState Grip) (made : Bool) : Type 0 where
@@ -245,5 +238,5 @@ pub record AdvancesOn (passed : ℕ → ℕ → Type 0) (operations : List Op) (
       → (errand_at new.errands other ≡ errand_at old.errands other) × HasSeenMore other old.events new.events
   pub advanced : HasAdvanced old new lane.caller operations lane after made
   pub gate :
-      FirstPassed passed lane.caller (begun_count lane.outcomes.items lane.stage)
-      → FirstPassed passed lane.caller (begun_count after.outcomes.items after.stage)
+      FirstPassed passed lane.caller (begun_count lane.outcomes.items lane.work)
+      → FirstPassed passed lane.caller (begun_count after.outcomes.items after.work)

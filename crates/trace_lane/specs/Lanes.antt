@@ -10,7 +10,7 @@ use Rattle.trace_text.specs.declared.trace.Op.{Op}
 use Rattle.lane_engine.specs.Callers.{Caller, IsAtRest, IsCall, IsIn, OwnsFor, new_caller}
 use Rattle.lane_outcomes.specs.declared.registers.HeldBlock.{HeldBlock}
 use Rattle.lane_outcomes.specs.declared.outcome.Outcome.{Outcome}
-use Rattle.trace_lane.specs.declared.stage.OperationStage.{OperationStage}
+use Rattle.trace_lane.specs.declared.work.Work.{Work}
 use Rattle.trace_lane.specs.Doing.{IsMaking}
 use Rattle.trace_lane.specs.Made.{calls_in, calls_made}
 
@@ -21,9 +21,9 @@ StandsBy g caller made (Some call) now =
     (last : Caller) × LeadsBy (IsCall g) (new_caller caller g) made last × IsAtRest g last × OwnsFor last.seen last.errand.caller call
     × IsIn last call now
 
--- a lane of these operations has these outcomes so far, and these registers, is at this stage, and has begun these calls; its caller has this errand, and these events are seen: the whole calls that its outcomes and its stage tell were made by the caller since it was new, and the others have made what it hasn't seen with its last step
+-- a lane of these operations has these outcomes so far, and these registers, has this request under way or none, and has begun these calls; its caller has this errand, and these events are seen: the whole calls that its outcomes and its request tell were made by the caller since it was new, and the others have made what it hasn't seen with its last step
 pub record IsLane (g : Geometry) (caller : ℕ) (events : List Event) (e : ErrandFields) (operations : List Op) (registers : List (Option HeldBlock))
-    (results : List Outcome) (at : OperationStage) (calls : List Call) : Type 0 where
+    (results : List Outcome) (at : Option (Work HeldBlock)) (calls : List Call) : Type 0 where
   pub made : List Made
   pub under : Option Call
   pub making : IsMaking operations registers results at made under

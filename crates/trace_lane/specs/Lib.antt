@@ -4,5 +4,7 @@ pub mod Doing
 pub mod Lanes
 pub mod Made
 pub mod Paths
+pub mod Requests
 pub mod Scripts
 pub mod States
+pub mod Works

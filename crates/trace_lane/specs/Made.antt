@@ -1,26 +1,31 @@
--- The whole calls that a lane has made: those of its operations with their outcomes, in the script's order, each with its answer; and those of an operation that is under way.
-use Rattle.std.specs.Prelude.{ℕ, ◌≡◌, ◌≢◌, ◌<◌, ◌≤◌, ◌+◌, ◌%◌, ◌^◌, ◌∷◌, ◌++◌, ◌⊎◌, List, [], Option, Some, None, map, sum, length, min, drop, slice_set, vec_capacity}
+-- The whole calls that a lane has made: those of its operations with their outcomes, in the script's order, each with its answer; and what each operation asks for.
+use Rattle.std.specs.Prelude.{ℕ, ◌≡◌, ◌≢◌, ◌<◌, ◌%◌, ◌^◌, ◌∷◌, ◌++◌, List, [], Option, Some, None, map, sum, length, min, drop, vec_capacity, slice_set}
 use Rattle.std.specs.List.{slice_index_or}
 use Rattle.heap_geometry.specs.declared.need.Need.{Need}
 use Rattle.heap_geometry.specs.declared.need.Need.TheVariants.{TooLarge}
 use Rattle.heap_geometry.specs.Need.{need_of, usable_words}
 use Rattle.errand_steps.specs.declared.reply.Reply.{Reply}
 use Rattle.errand_steps.specs.declared.reply.Reply.TheVariants as reply
-use Rattle.errand_steps.specs.Calls.{Call, alloc, free, put, read, take, write}
+use Rattle.errand_steps.specs.Calls.{Call, alloc, free, put, take}
 use Rattle.trace_text.specs.declared.limits.TheConstants.{REGISTERS}
 use Rattle.trace_text.specs.declared.trace.Op.{Op}
 use Rattle.trace_text.specs.declared.trace.Op.TheVariants as op
 use Rattle.sound_laws.specs.events.Made.{LeadsBy, Made, answered, copied, found_from, wrote}
 use Rattle.lane_engine.specs.Whole.{Maker}
-use Rattle.lane_outcomes.specs.Deeds.{register_of}
+use Rattle.trace_text.specs.Operations.{register_of}
 use Rattle.lane_outcomes.specs.declared.registers.HeldBlock.{HeldBlock}
 use Rattle.lane_outcomes.specs.declared.outcome.Outcome.{Outcome}
 use Rattle.lane_outcomes.specs.declared.outcome.Outcome.TheVariants as outcome
 use Rattle.lane_outcomes.specs.Lane.{held_in, registers_after}
 use Rattle.trace_lane.specs.declared.lane.LaneState.{LaneState}
-use Rattle.trace_lane.specs.declared.stage.OperationStage.{OperationStage}
-use Rattle.trace_lane.specs.declared.stage.OperationStage.TheVariants as stage
 use Rattle.trace_lane.specs.Paths.{held_blocks}
+use Rattle.trace_lane.specs.Requests.{AreMisses, held_of, Serves, answer_held, next_held}
+use Rattle.trace_lane.specs.declared.request.Answer.{Answer}
+use Rattle.trace_lane.specs.declared.request.Next.{Next}
+use Rattle.trace_lane.specs.declared.request.Next.TheVariants as next
+use Rattle.trace_lane.specs.declared.request.Request.{Request}
+use Rattle.trace_lane.specs.declared.request.Request.TheVariants as request
+use Rattle.trace_lane.specs.Works.{rank}
 
 -- calls without their answers
 abbrev pub calls_made : List Made → List Call
@@ -30,12 +35,6 @@ calls_made made = map (λ m. m.call) made
 abbrev pub calls_in : Option Call → List Call
 calls_in None = []
 calls_in (Some call) = call ∷ []
-
--- takes that missed the shelf's block
-abbrev pub AreMisses : ℕ → List Made → Type 0
-AreMisses shelf [] = Unit {0}
-AreMisses shelf (made ∷ rest) =
-    (expected : ℕ) × (found : ℕ) × (made ≡ answered (take shelf) (reply.Missed expected found)) × AreMisses shelf rest
 
 -- calls on the block of a full register, with the need that it was given or taken with
 abbrev pub OnBlock : Option HeldBlock → (HeldBlock → Need → Type 0) → Type 0
@@ -100,101 +99,75 @@ registers_from registers [] (result ∷ results) = registers
 registers_from registers (operation ∷ operations) (result ∷ results) =
     registers_from (registers_after registers operation result) operations results
 
--- the block at this place that serves this need, as a register's
-abbrev pub held_of : ℕ → Need → HeldBlock
-held_of place need = record { place = place; words = usable_words need; need = need }
-
 -- the block of a full register
 abbrev pub held_there : Option HeldBlock → HeldBlock
 held_there (Some held) = held
 held_there None = held_of 0 TooLarge
 
--- the word is one of a block of so many words, if that has any
-abbrev pub IsInside : ℕ → ℕ → Type 0
-IsInside next words = 0 < words → next < words
+-- the register held this block, which has the words of its need
+abbrev pub IsHeld : List (Option HeldBlock) → ℕ → HeldBlock → Type 0
+IsHeld registers r held = (held_in registers r ≡ Some held) × (held.words ≡ usable_words held.need)
 
--- a resize has its new block, at this place, in the register of the old one
-pub record IsReplacing (before registers : List (Option HeldBlock)) (r need : ℕ) (old : HeldBlock) (place : ℕ) : Type 0 where
-  pub was : held_in before r ≡ Some old
-  pub serves : old.words ≡ usable_words old.need
-  pub other_need : need_of need ≢ old.need
-  pub replaced : registers ≡ slice_set before r (Some (held_of place (need_of need)))
+-- and it was taken out
+abbrev pub IsTakenOut : List (Option HeldBlock) → List (Option HeldBlock) → ℕ → HeldBlock → Type 0
+IsTakenOut before registers r held = IsHeld before r held × (registers ≡ slice_set before r None)
 
--- the calls of a resize that has its new block, and has copied so many words of the old one, where these are the words that it has read
-abbrev pub replacing : HeldBlock → ℕ → ℕ → List ℕ → ℕ → List Made
-replacing old place need words count =
-    answered (alloc need) (reply.Given place (need_of need)) ∷ copied old.place old.need place (need_of need) words count
+-- the operation has ended these calls and asks for this, where the registers held `before` when it began and hold `registers` now
+abbrev pub Asks : List (Option HeldBlock) → List (Option HeldBlock) → Op → Request HeldBlock → List Made → Type 0
+Asks before registers (op.Alloc r need v) (request.Allocate words) made =
+    (words ≡ need) × (held_in before r ≡ None) × (registers ≡ before) × (made ≡ [])
+Asks before registers (op.Alloc r need v) (request.Fill held from) made =
+    (from ≡ v) × (held_in before r ≡ None) × (registers ≡ before) × (held ≡ held_of held.place (need_of need))
+    × (made ≡ answered (alloc need) (reply.Given held.place (need_of need)) ∷ [])
+Asks before registers (op.Free r) (request.Free held) made = IsTakenOut before registers r held × (made ≡ [])
+Asks before registers (op.Fill r v) (request.Fill held from) made = (from ≡ v) × IsTakenOut before registers r held × (made ≡ [])
+Asks before registers (op.Check r) (request.Sum held) made = IsTakenOut before registers r held × (made ≡ [])
+Asks before registers (op.Put r shelf) (request.Put held on) made = (on ≡ shelf) × IsTakenOut before registers r held × (made ≡ [])
+Asks before registers (op.Take r shelf) (request.Take off) made =
+    (off ≡ shelf) × (held_in before r ≡ None) × (registers ≡ before) × (made ≡ [])
+Asks before registers (op.Resize r need) (request.Allocate words) made =
+    (words ≡ need) × (held : HeldBlock) × IsHeld before r held × (need_of need ≢ held.need) × (registers ≡ before) × (made ≡ [])
+Asks before registers (op.Resize r need) (request.Copy from to) made =
+    IsTakenOut before registers r from × (need_of need ≢ from.need) × (to ≡ held_of to.place (need_of need))
+    × (made ≡ answered (alloc need) (reply.Given to.place (need_of need)) ∷ [])
+Asks before registers (op.Resize r need) (request.Free from) made =
+    IsHeld before r from × (need_of need ≢ from.need) × (place : ℕ) × (registers ≡ slice_set before r (Some (held_of place (need_of need))))
+    × (found : List ℕ) × (length found ≡ min (usable_words from.need) (usable_words (need_of need)))
+    × (made
+    ≡ answered (alloc need) (reply.Given place (need_of need))
+    ∷ copied from.place from.need place (need_of need) found (usable_words (need_of need)))
+Asks before registers operation request made = ⊥
 
--- word `next` of the old block was read, and is this one; behind that block's end none is read, and 0 stands for it
-abbrev pub IsReadFor : HeldBlock → ℕ → ℕ → List Made → Type 0
-IsReadFor old next word got =
-    ((next < old.words) × (got ≡ answered (read old.place old.need next) (reply.Word word) ∷ []))
-    ⊎ ((old.words ≤ next) × (word ≡ 0) × (got ≡ []))
+-- the operation has ended these calls and goes on so, or has this outcome
+abbrev pub IsNext : List (Option HeldBlock) → Op → Next HeldBlock → List Made → List (Option HeldBlock) → Type 0
+IsNext before operation (next.Ask asked) made registers = Asks before registers operation asked made
+IsNext before operation (next.Told result) made registers =
+    MadeFor (held_in before (register_of operation)) operation result made × (registers ≡ registers_after before operation result)
 
--- the operation under way has ended these calls, where the registers held `before` when it began and hold `registers` now
-abbrev pub DoingOf : List (Option HeldBlock) → List (Option HeldBlock) → Op → OperationStage → List Made → Type 0
-DoingOf before registers (op.Alloc r need v) stage.Calling made = (registers ≡ before) × (held_in before r ≡ None) × (made ≡ [])
-DoingOf before registers (op.Alloc r need v) (stage.Filling next) made =
-    (place : ℕ) × (held_in before r ≡ None) × (registers ≡ slice_set before r (Some (held_of place (need_of need))))
-    × IsInside next (usable_words (need_of need))
-    × (made ≡ answered (alloc need) (reply.Given place (need_of need)) ∷ wrote place (need_of need) v next)
-DoingOf before registers (op.Free r) stage.Calling made =
-    OnBlock (held_in before r) (λ held need. (registers ≡ slice_set before r None) × (made ≡ []))
-DoingOf before registers (op.Fill r v) (stage.Filling next) made =
-    OnBlock (held_in before r) (λ held need. (registers ≡ before) × IsInside next held.words × (made ≡ wrote held.place need v next))
-DoingOf before registers (op.Check r) (stage.Summing next total) made =
-    OnBlock (held_in before r)
-    (λ held need.
-    (registers ≡ before) × IsInside next held.words × (words : List ℕ) × (length words ≡ next) × (total ≡ sum words % 2 ^ 64)
-    × (made ≡ found_from held.place need 0 words))
-DoingOf before registers (op.Put r shelf) stage.Calling made =
-    OnBlock (held_in before r) (λ held need. (registers ≡ slice_set before r None) × (made ≡ []))
-DoingOf before registers (op.Take r shelf) stage.Calling made = (registers ≡ before) × (held_in before r ≡ None) × AreMisses shelf made
-DoingOf before registers (op.Resize r need) stage.Calling made =
-    OnBlock (held_in before r) (λ held had. (registers ≡ before) × (need_of need ≢ had) × (made ≡ []))
-DoingOf before registers (op.Resize r need) (stage.Copying old next None) made =
-    (place : ℕ) × IsReplacing before registers r need old place × IsInside next old.words × IsInside next (usable_words (need_of need))
-    × (words : List ℕ) × (length words ≡ next) × (made ≡ replacing old place need words next)
-DoingOf before registers (op.Resize r need) (stage.Copying old next (Some word)) made =
-    (place : ℕ) × IsReplacing before registers r need old place × IsInside next (usable_words (need_of need))
-    × (words : List ℕ) × (length words ≡ min old.words next) × (got : List Made) × IsReadFor old next word got
-    × (made ≡ replacing old place need words next ++ got)
-DoingOf before registers (op.Resize r need) stage.Releasing made =
-    (old : HeldBlock) × (place : ℕ) × IsReplacing before registers r need old place
-    × (words : List ℕ) × (length words ≡ min old.words (usable_words (need_of need)))
-    × (made ≡ replacing old place need words (usable_words (need_of need)))
-DoingOf before registers operation at made = ⊥
+-- what an operation asks for then comes later in it
+abbrev pub IsLater : Request HeldBlock → Next HeldBlock → Type 0
+IsLater asked (next.Ask more) = rank asked < rank more
+IsLater asked (next.Told result) = Unit {0}
 
--- the write of a block's word; of one that is filled from v on; its read, and the block's free
-abbrev pub writes : HeldBlock → ℕ → ℕ → Call
-writes held next word = write held.place held.need next word
+module _ {B : Type 0} (place_of : B → ℕ) (block_need : B → Need) (operation : Op) where
+  -- an operation begins so
+  abbrev pub Begins : List (Option B) → Next B → List (Option B) → Type 0
+  Begins old next new =
+      IsNext (held_blocks place_of block_need old) operation (next_held place_of block_need next) [] (held_blocks place_of block_need new)
 
-abbrev pub fills : HeldBlock → ℕ → ℕ → Call
-fills held v next = write held.place held.need next ((v + next) % 2 ^ 64)
+  -- what it asked for is answered so
+  abbrev pub IsAnswer : List (Option B) → Answer B → Type 0
+  IsAnswer registers told =
+      (before : List (Option HeldBlock)) × (asked : Request HeldBlock) × (made : List Made) × (more : List Made)
+      × Asks before (held_blocks place_of block_need registers) operation asked made × Serves asked (answer_held place_of block_need told) more
 
-abbrev pub reads : HeldBlock → ℕ → Call
-reads held next = read held.place held.need next
-
-abbrev pub frees : HeldBlock → Call
-frees held = free held.place held.need
-
--- the call that is under way
-abbrev pub call_at : List (Option HeldBlock) → List (Option HeldBlock) → Op → OperationStage → Call
-call_at before registers (op.Alloc r need v) (stage.Filling next) = fills (held_there (held_in registers r)) v next
-call_at before registers (op.Alloc r need v) at = alloc need
-call_at before registers (op.Free r) at = frees (held_there (held_in before r))
-call_at before registers (op.Fill r v) (stage.Filling next) = fills (held_there (held_in registers r)) v next
-call_at before registers (op.Fill r v) at = alloc 0
-call_at before registers (op.Check r) (stage.Summing next total) = reads (held_there (held_in registers r)) next
-call_at before registers (op.Check r) at = alloc 0
-call_at before registers (op.Put r shelf) at =
-    put (held_there (held_in before r)).place (held_there (held_in before r)).need shelf
-call_at before registers (op.Take r shelf) at = take shelf
-call_at before registers (op.Resize r need) (stage.Copying old next None) = reads old next
-call_at before registers (op.Resize r need) (stage.Copying old next (Some word)) =
-    writes (held_there (held_in registers r)) next word
-call_at before registers (op.Resize r need) stage.Releasing = frees (held_there (held_in before r))
-call_at before registers (op.Resize r need) at = alloc need
+  -- and it goes on so by that
+  abbrev pub GoesOn : List (Option B) → Answer B → Next B → List (Option B) → Type 0
+  GoesOn old told next new =
+      (before : List (Option HeldBlock)) (asked : Request HeldBlock) (made more : List Made)
+      → Asks before (held_blocks place_of block_need old) operation asked made → Serves asked (answer_held place_of block_need told) more
+      → IsNext before operation (next_held place_of block_need next) (made ++ more) (held_blocks place_of block_need new)
+      × IsLater asked (next_held place_of block_need next)
 
 module _ {S : Type 0} (called : S → Call → Reply → S → Type 0) where
   -- an operation with its outcome led from one state to another
@@ -219,14 +192,6 @@ pub record HoldsBlocks {B : Type 0} (place_of : B → ℕ) (need_of : B → Need
       → place_of block ≢ place_of other
 
 module _ {B S : Type 0} (place_of : B → ℕ) (need_of : B → Need) where
-  -- takes that missed, and one that got this block or found none
-  abbrev pub Takes : (S → Call → Reply → S → Type 0) → S → ℕ → Option B → S → Type 0
-  Takes called before shelf None after =
-      (misses : List Made) × AreMisses shelf misses × LeadsBy called before (misses ++ answered (take shelf) reply.Empty ∷ []) after
-  Takes called before shelf (Some block) after =
-      (misses : List Made) × AreMisses shelf misses
-      × LeadsBy called before (misses ++ answered (take shelf) (reply.Got (place_of block) (need_of block)) ∷ []) after
-
   -- a lane may make an operation: it is in no call, holds blocks of its caller's, and has room for one more outcome
   pub record MayMake (maker : Maker S) (at : S) (lane : LaneState B) : Type 0 where
     pub stands : maker.stands at
@@ -243,7 +208,7 @@ module _ {B S : Type 0} (place_of : B → ℕ) (need_of : B → Need) where
     pub holds : HoldsBlocks place_of need_of (maker.owns after) new.registers.items
     pub results : new.outcomes.items ≡ old.outcomes.items ++ result ∷ []
     pub same_caller : new.caller ≡ old.caller
-    pub between : new.stage ≡ stage.Between
+    pub same_work : new.work ≡ old.work
     pub room : vec_capacity new.outcomes ≡ vec_capacity old.outcomes
 
   -- a lane made its next operations by whole calls, and has their outcomes
@@ -256,5 +221,5 @@ module _ {B S : Type 0} (place_of : B → ℕ) (need_of : B → Need) where
         ≡ registers_from (held_blocks place_of need_of old.registers.items) (drop (length old.outcomes.items) operations) results
     pub outcomes : new.outcomes.items ≡ old.outcomes.items ++ results
     pub same_caller : new.caller ≡ old.caller
-    pub between : old.stage ≡ stage.Between → new.stage ≡ stage.Between
+    pub same_work : new.work ≡ old.work
     pub room : vec_capacity new.outcomes ≡ vec_capacity old.outcomes

@@ -1,16 +1,12 @@
 -- Blocks in hand as a register's, the moves of a lane's caller, and which operations have passed a gate.
-use Rattle.std.specs.Prelude.{ℕ, ◌≡◌, ◌<◌, ◌+◌, ◌-◌, ◌*◌, ◌^◌, ◌∷◌, List, [], Option, Some, None, map, min, length}
+use Rattle.std.specs.Prelude.{ℕ, ◌≡◌, ◌<◌, ◌-◌, ◌^◌, ◌∷◌, List, [], Option, map, min}
 use Rattle.std.specs.Option.{option_map}
-use Rattle.heap_geometry.specs.declared.limits.TheConstants.{LARGE_MOST}
 use Rattle.heap_geometry.specs.declared.need.Need.{Need}
 use Rattle.heap_geometry.specs.Need.{usable_words}
 use Rattle.sound_state.specs.Runs.{Move, begins, steps}
 use Rattle.step_machine.specs.Cores.{CoreFields}
 use Rattle.lane_engine.specs.Machines.{MovesCore}
 use Rattle.lane_outcomes.specs.declared.registers.HeldBlock.{HeldBlock}
-use Rattle.lane_outcomes.specs.declared.outcome.Outcome.{Outcome}
-use Rattle.trace_lane.specs.declared.stage.OperationStage.{OperationStage}
-use Rattle.trace_lane.specs.declared.stage.OperationStage.TheVariants as stage
 
 -- a block in hand as a register's: its place, its usable words and its need
 abbrev pub held_by : {B : Type 0} → (B → ℕ) → (B → Need) → B → HeldBlock
@@ -29,20 +25,6 @@ MovesLead before (move ∷ moves) after = (next : CoreFields) × MovesCore befor
 abbrev pub IsBy : ℕ → Move → Type 0
 IsBy caller (begins other call) = other ≡ caller
 IsBy caller (steps other) = other ≡ caller
-
--- how far a lane is in its operation, in a number that rises with each of its calls
-abbrev pub stage_begun : OperationStage → ℕ
-stage_begun stage.Between = 0
-stage_begun stage.Calling = 1
-stage_begun (stage.Filling next) = next + 2
-stage_begun (stage.Summing next total) = next + 2
-stage_begun (stage.Copying old next None) = 2 * next + 2
-stage_begun (stage.Copying old next (Some word)) = 2 * next + 3
-stage_begun stage.Releasing = 2 * LARGE_MOST + 2
-
--- how many operations a lane has begun
-abbrev pub begun_count : List Outcome → OperationStage → ℕ
-begun_count results at = length results + min (stage_begun at) 1
 
 -- these first operations of a lane have passed a gate, the first as number 0; a number that doesn't fit is the last one that does
 abbrev pub FirstPassed : (ℕ → ℕ → Type 0) → ℕ → ℕ → Type 0

@@ -1,6 +1,7 @@
 -- A lane's state, and a new one.
 use Rattle.std.specs.Prelude.{ℕ, ◌≡◌, ◌<◌, ◌≤◌, [], List, Option, None, length, replicate, vec_capacity}
 use Rattle.std.specs.List.{slice_index_or}
+use Rattle.std.specs.Option.{option_map}
 use Rattle.errand_steps.specs.Calls.{Call}
 use Rattle.step_machine.specs.Cores.{CoreFields, IsCore}
 use Rattle.trace_text.specs.declared.limits.TheConstants.{REGISTERS}
@@ -9,7 +10,8 @@ use Rattle.lane_engine.specs.declared.grip.Grip.{Grip}
 use Rattle.lane_engine.specs.Engines.{Engine, machine_at}
 use Rattle.lane_outcomes.specs.declared.registers.HeldBlock.{HeldBlock}
 use Rattle.trace_lane.specs.declared.lane.LaneState.{LaneState}
-use Rattle.trace_lane.specs.declared.stage.OperationStage.TheVariants as stage
+use Rattle.trace_lane.specs.declared.work.Work.{Work}
+use Rattle.trace_lane.specs.Works.{work_held}
 use Rattle.trace_lane.specs.Lanes.{IsLane}
 use Rattle.trace_lane.specs.Paths.{held_blocks, held_by}
 
@@ -18,7 +20,7 @@ pub record IsNew {B : Type 0} (caller count : ℕ) (lane : LaneState B) : Type 0
   pub caller_is : lane.caller ≡ caller
   pub empty : lane.registers.items ≡ replicate REGISTERS None
   pub none : lane.outcomes.items ≡ []
-  pub between : lane.stage ≡ stage.Between
+  pub between : lane.work ≡ None
   pub room : count ≤ vec_capacity lane.outcomes
 
 -- a new lane for each list of operations
@@ -35,11 +37,15 @@ held_at engine block = held_by engine.place_of engine.need_of block
 abbrev pub registers_at : {B : Type 0} → Engine B → List (Option B) → List (Option HeldBlock)
 registers_at engine registers = held_blocks engine.place_of engine.need_of registers
 
+-- and what is under way of a request
+abbrev pub work_at : {B : Type 0} → Engine B → Option (Work B) → Option (Work HeldBlock)
+work_at engine at = option_map (work_held engine.place_of engine.need_of) at
+
 -- the lane of these operations stands so over this engine, and has begun these calls; it has room for all outcomes
 pub record IsLaneOf {B : Type 0} (engine : Engine B) (operations : List Op) (lane : LaneState B) (calls : List Call) : Type 0 where
   pub stands :
       IsLane engine.geometry lane.caller engine.events engine.errand operations
-      (registers_at engine lane.registers.items) lane.outcomes.items lane.stage calls
+      (registers_at engine lane.registers.items) lane.outcomes.items (work_at engine lane.work) calls
   pub size : length lane.registers.items ≡ REGISTERS
   pub room : length operations ≤ vec_capacity lane.outcomes
 

@@ -1,11 +1,11 @@
-//! One lane of a trace, and how it goes on by one atomic step of a machine after another.
+//! One lane of a trace: it hands out requests and takes their answers. Whole calls serve a request at once, or a machine
+//! does it by one atomic step after another.
 
 ghost use Rattle.std.specs.Prelude.{◌≡◌, ◌<◌, ◌-◌, ◌^◌, ◌↔◌, ◌++◌, ◌∷◌, List, [], None, Ok, IfOk, OnErr, All, length, min, false, replicate, IsTrue};
 ghost use Rattle.std.specs.Vec.{vec_capacity};
 ghost use Rattle.trace_text.specs.declared.limits.TheConstants.{REGISTERS};
 ghost use Rattle.trace_text.specs.Traces.{IsOp};
-ghost use Rattle.trace_lane.specs.declared.stage.OperationStage.TheVariants as stage;
-ghost use Rattle.trace_lane.specs.Advances.{AdvancesOn, BeginsOperation, GoesOnBy, LaneGoesOn, MayBeginCall, MayBeginOperation, MayGoOn};
+ghost use Rattle.trace_lane.specs.Advances.{AdvancesOn, BeginsOperation, GoesOnBy, HasAnswered, HasBegun, LaneGoesOn, MayAnswer, MayBeginCall, MayBeginOperation, MayGoOn, TakesUp};
 ghost use Rattle.trace_lane.specs.States.{IsNew, StandsOn};
 ghost use Rattle.trace_lane.specs.declared.lane.LaneState.{LaneState};
 ghost use Rattle.pool_model.specs.declared.event.Event.{Event};
@@ -14,10 +14,12 @@ ghost use Rattle.errand_steps.specs.Errands.{ErrandFields};
 ghost use Rattle.trace_text.specs.declared.trace.Op.{Op};
 ghost use Rattle.lane_engine.specs.Machines.{ServesCaller};
 
-mod calls;
+mod operations;
 mod registers;
+mod whole;
 
-use crate::stage::OperationStage;
+use crate::request::Next;
+use crate::work::{Work, Worked};
 use edge_io::gate::Gate;
 use errand_steps::reply::Begun;
 use errand_steps::told::{Ending, Stepped};
@@ -38,7 +40,8 @@ pub struct LaneState<B> {
     caller: u32,
     registers: Vec<Option<B>>,
     outcomes: Vec<Outcome>,
-    stage: OperationStage,
+    /// What is under way of a request that is served call by call.
+    work: Option<Work<B>>,
 }
 
 /// Registers that hold nothing.
@@ -76,7 +79,7 @@ impl<B: Token + Drop> LaneState<B> {
             caller: lane,
             registers,
             outcomes,
-            stage: OperationStage::Between,
+            work: None,
         })
     }
 
@@ -104,36 +107,76 @@ impl<B: Token + Drop> LaneState<B> {
 
     /// Whether no operation is under way.
     fn is_between(&self) -> bool
-        ensures { IsTrue result ↔ self.now.stage ≡ stage.Between }
+        ensures { IsTrue result ↔ self.now.work ≡ None }
     {
-        matches!(self.stage, OperationStage::Between)
+        self.work.is_none()
     }
 
     /// Ends the operation at hand with its outcome, for which there is room.
     fn finish(&mut self, outcome: Outcome)
         requires { length self.old.outcomes.items < vec_capacity self.old.outcomes }
-        ensures caller { self.new.caller ≡ self.old.caller }
-        ensures registers { self.new.registers ≡ self.old.registers }
+        ensures rest { self.new ≡ record self.old { outcomes = self.new.outcomes } }
         ensures outcomes { self.new.outcomes.items ≡ self.old.outcomes.items ++ outcome ∷ [] }
         ensures room { vec_capacity self.new.outcomes ≡ vec_capacity self.old.outcomes }
-        ensures stage { self.new.stage ≡ stage.Between }
     {
         self.outcomes.push_reserved(outcome);
-        self.stage = OperationStage::Between;
     }
 
-    /// So it does where the operation has no call more.
-    fn end(&mut self, outcome: Outcome) -> Option<NextCall>
-        requires { length self.old.outcomes.items < vec_capacity self.old.outcomes }
-        ensures none { result ≡ None }
-        ensures caller { self.new.caller ≡ self.old.caller }
-        ensures registers { self.new.registers ≡ self.old.registers }
-        ensures outcomes { self.new.outcomes.items ≡ self.old.outcomes.items ++ outcome ∷ [] }
-        ensures room { vec_capacity self.new.outcomes ≡ vec_capacity self.old.outcomes }
-        ensures stage { self.new.stage ≡ stage.Between }
+    /// Goes on with an operation: hands out the first call of what it asks for, or gives it its outcome.
+    fn take_up(&mut self, next: Next<B>) -> Option<NextCall>
+        requires room { length self.old.outcomes.items < vec_capacity self.old.outcomes }
+        requires free { self.old.work ≡ None }
+        ensures { TakesUp B.place_of B.need_of next self.old result self.new }
     {
-        self.finish(outcome);
-        None
+        match next {
+            Next::Told(outcome) => {
+                self.finish(outcome);
+                None
+            }
+            Next::Ask(request) => {
+                let work = Work::new(request);
+                let call = work.call();
+                self.work = Some(work);
+                Some(call)
+            }
+        }
+    }
+
+    /// Begins the operation: hands out its first call, or gives it its outcome where it has none.
+    fn begin(&mut self, operation: Op) -> Option<NextCall>
+        requires operation { IsOp operation }
+        requires size { length self.old.registers.items ≡ REGISTERS }
+        requires room { length self.old.outcomes.items < vec_capacity self.old.outcomes }
+        requires between { self.old.work ≡ None }
+        ensures begun { HasBegun B.place_of B.need_of operation self.old result self.new }
+    {
+        let next = operations::begin(&mut self.registers, operation);
+        self.take_up(next)
+    }
+
+    /// Goes on by how the call of the operation at hand has ended: hands out the operation's next call, or gives it its
+    /// outcome.
+    fn answer(&mut self, operation: Op, ended: Ending<B>) -> Option<NextCall>
+        requires operation { IsOp operation }
+        requires size { length self.old.registers.items ≡ REGISTERS }
+        requires room { length self.old.outcomes.items < vec_capacity self.old.outcomes }
+        requires ready { MayAnswer B.place_of B.need_of operation ended self.old }
+        ensures answered { HasAnswered B.place_of B.need_of operation ended self.old result self.new }
+    {
+        let Some(work) = self.work.take() else {
+            unreachable!()
+        };
+        match work.answer(ended) {
+            Worked::Going(work) => {
+                let call = work.call();
+                self.work = Some(work);
+                Some(call)
+            }
+            Worked::Answered(answer) => {
+                let next = operations::go_on(&mut self.registers, operation, answer);
+                self.take_up(next)
+            }
+        }
     }
 }
 
@@ -192,7 +235,7 @@ impl LaneState<Grip> {
         requires stands { StandsOn core.old operations.now self.old }
         ensures events { core.new.events ≡ core.old.events }
         ensures advanced { AdvancesOn (G.passed gate.now) operations.now core.old core.new self.old self.new false }
-        ensures ended { self.new.stage ≡ stage.Between → length self.new.outcomes.items ≡ length operations.now }
+        ensures ended { self.new.work ≡ None → length self.new.outcomes.items ≡ length operations.now }
     {
         if !self.is_between() {
             return;
@@ -224,7 +267,7 @@ impl LaneState<Grip> {
         requires stands { StandsOn core.old operations.now self.old }
         ensures advanced { IfOk result (λ made. AdvancesOn (G.passed gate.now) operations.now core.old core.new self.old self.new made) }
         ensures failed { OnErr result (AdvancesOn (G.passed gate.now) operations.now core.old core.new self.old self.new false) }
-        ensures ended { result ≡ Ok false → (self.new.stage ≡ stage.Between) × (length self.new.outcomes.items ≡ length operations.now) }
+        ensures ended { result ≡ Ok false → (self.new.work ≡ None) × (length self.new.outcomes.items ≡ length operations.now) }
         ensures geometry { core.new.geometry ≡ core.old.geometry }
     {
         self.begin_next(core, operations, gate);

@@ -21,8 +21,7 @@ ghost use Rattle.trace_lane.specs.Lanes.{IsLane};
 ghost use Rattle.trace_lane.specs.Scripts.{Scripts};
 ghost use Rattle.trace_lane.specs.States.{IsLaneOf, IsNew};
 ghost use Rattle.trace_lane.specs.declared.lane.LaneState.{LaneState};
-ghost use Rattle.trace_lane.specs.declared.stage.OperationStage.{OperationStage};
-ghost use Rattle.trace_lane.specs.declared.stage.OperationStage.TheVariants.{Between};
+ghost use Rattle.trace_lane.specs.declared.work.Work.{Work};
 
 use crate::lane::LaneState;
 use step_machine::token::Token;
@@ -37,7 +36,7 @@ pub fn new_lanes_stand<B: Token>()
 /// A lane stands as it stood, whatever others did in the meantime.
 pub fn lanes_stand_beside()
     ensures { (g : Geometry) (caller : ℕ) (before after : List Event) (e : ErrandFields) (operations : List Op)
-        (registers : List (Option HeldBlock)) (results : List Outcome) (at : OperationStage) (calls : List Call)
+        (registers : List (Option HeldBlock)) (results : List Outcome) (at : Option (Work HeldBlock)) (calls : List Call)
         → IsLane g caller before e operations registers results at calls → HasSeenMore caller before after
         → IsLane g caller after e operations registers results at calls }
 {}
@@ -47,10 +46,10 @@ pub fn lanes_stand_beside()
 pub fn lanes_make_the_calls_of_their_script()
     ensures idle { (g : Geometry) (caller : ℕ) (events : List Event) (e : ErrandFields) (operations : List Op)
         (registers : List (Option HeldBlock)) (results : List Outcome) (calls : List Call)
-        → IsLane g caller events e operations registers results Between calls → IsIdle e }
+        → IsLane g caller events e operations registers results None calls → IsIdle e }
     ensures script { (g : Geometry) (caller : ℕ) (events : List Event) (e : ErrandFields) (operations : List Op)
         (registers : List (Option HeldBlock)) (results : List Outcome) (calls : List Call)
-        → IsLane g caller events e operations registers results Between calls
+        → IsLane g caller events e operations registers results None calls
         → Scripts (replicate REGISTERS None) operations results calls }
 {}
 
@@ -59,15 +58,15 @@ pub fn lanes_make_the_calls_of_their_script()
 /// have no turn left has taken them all.
 pub fn outcomes_of_lanes_fit()
     ensures so_far { (g : Geometry) (caller : ℕ) (events : List Event) (e : ErrandFields) (operations : List Op)
-        (registers : List (Option HeldBlock)) (results : List Outcome) (at : OperationStage) (calls : List Call) (lost : ℕ)
+        (registers : List (Option HeldBlock)) (results : List Outcome) (at : Option (Work HeldBlock)) (calls : List Call) (lost : ℕ)
         → IsLane g caller events e operations registers results at calls → e.lost ≤ lost
         → (end : Position) × Walks (setting_in events caller g.turn_limit lost) start (take (length results) operations) results end }
     ensures ended { (g : Geometry) (caller : ℕ) (events : List Event) (e : ErrandFields) (operations : List Op)
         (registers : List (Option HeldBlock)) (results : List Outcome) (calls : List Call) (lost : ℕ)
-        → IsLane g caller events e operations registers results Between calls → length results ≡ length operations → e.lost ≤ lost
+        → IsLane g caller events e operations registers results None calls → length results ≡ length operations → e.lost ≤ lost
         → Fits (setting_in events caller g.turn_limit lost) operations results }
     ensures spent { (g : Geometry) (caller : ℕ) (events : List Event) (e : ErrandFields) (operations : List Op)
         (registers : List (Option HeldBlock)) (results : List Outcome) (calls : List Call) (k : ℕ)
-        → IsLane g caller events e operations registers results Between calls → k < length results
+        → IsLane g caller events e operations registers results None calls → k < length results
         → slice_index_or results k Spent ≡ Spent → e.turns ≡ g.turn_limit }
 {}

@@ -1,6 +1,8 @@
-//! A lane of a trace: each operation as its calls, each call as its atomic steps, or made as a whole.
+//! A lane of a trace: each operation as requests, each of them served by a whole call, or by its atomic steps.
 #![tactic(auto)]
 
 pub mod lane;
 pub mod laws;
-pub mod stage;
+pub mod request;
+mod serve;
+pub mod work;

@@ -1,4 +1,4 @@
--- The operations: how each of them is written.
+-- The operations: on which register each of them is, and how it is written.
 use Rattle.std.specs.Prelude.{◌≡◌, ℕ, ◌<◌, ◌≤◌, ◌-◌, ◌^◌, Bool, true, false, ◌==◌, if◌then◌else◌, List, [], ◌∷◌, codes, slice_index, Option, Some, None}
 use Rattle.std.specs.Fmt.{decimal}
 use Rattle.heap_geometry.specs.declared.limits.TheConstants.{LARGE_MOST, SHELVES}
@@ -44,6 +44,16 @@ written_of (Check r) = single (codes "c") One Register r
 written_of (Put r shelf) = pair (codes "p") One Register r Shelf shelf
 written_of (Take r shelf) = pair (codes "t") One Register r Shelf shelf
 written_of (Resize r need) = pair (codes "r") Two Register r Need need
+
+-- the register that an operation is on
+abbrev pub register_of : Op → ℕ
+register_of (Alloc r need v) = r
+register_of (Free r) = r
+register_of (Fill r v) = r
+register_of (Check r) = r
+register_of (Put r shelf) = r
+register_of (Take r shelf) = r
+register_of (Resize r need) = r
 
 -- the operations of one letter, by their numbers
 pub data Maker : Type 0 where

@@ -1,17 +1,15 @@
 -- Which registers of a lane hold a block.
 use Rattle.std.specs.Prelude.{◌≡◌, ℕ, zero, suc, ◌<◌, Bool, false, ◌||◌, ◌==◌, if◌then◌else◌, List, [], ◌∷◌, ◌++◌, fold, get_or}
 use Rattle.trace_text.specs.declared.trace.Op.{Op}
-use Rattle.trace_text.specs.declared.trace.Op.TheVariants.{Alloc, Free, Fill, Check, Put, Take, Resize}
+use Rattle.trace_text.specs.declared.trace.Op.TheVariants.{Alloc, Free, Put, Take}
 
 -- whether a register holds a block behind an operation, by whether it held one before
 abbrev pub held_behind : ℕ → Bool → Op → Bool
 held_behind k held (Alloc r need v) = r == k || held
 held_behind k held (Free r) = if r == k then false else held
-held_behind k held (Fill r v) = held
-held_behind k held (Check r) = held
 held_behind k held (Put r shelf) = if r == k then false else held
 held_behind k held (Take r shelf) = r == k || held
-held_behind k held (Resize r need) = held
+held_behind k held operation = held
 
 -- whether a register holds a block after these operations of a lane
 unfoldable pub is_held : ℕ → List Op → Bool

@@ -8,7 +8,7 @@ use Rattle.trace_text.specs.declared.limits.TheConstants.{REGISTERS}
 use Rattle.trace_text.specs.declared.trace.Op.{Op}
 use Rattle.trace_text.specs.declared.trace.Op.TheVariants.{Resize}
 use Rattle.lane_outcomes.specs.LaneCounts.{as_one, count_with}
-use Rattle.lane_outcomes.specs.Deeds.{register_of}
+use Rattle.trace_text.specs.Operations.{register_of}
 use Rattle.roomy_traces.specs.Roomy.{Doing, Filled, doing_of, moves, filled_in, serial_by, serial_after, held_by, held_during, most_held, no_blocks}
 use Rattle.roomy_traces.specs.Roomy as does
 

@@ -28,7 +28,8 @@ use Rattle.roomy_traces.proofs.SerialRows.{IsPlainDeed, plain-deed}
 use Rattle.roomy_traces.proofs.through_lemmas.MagazineLemmas.{total, total-freed, total-given}
 use Rattle.lane_outcomes.proofs.SlotRows.{Adds, row-adds}
 use Rattle.lane_outcomes.specs.Deeds as deed
-use Rattle.lane_outcomes.specs.Deeds.{Deed, deed_of, freed_by, given_by, register_of, registers_by}
+use Rattle.trace_text.specs.Operations.{register_of}
+use Rattle.lane_outcomes.specs.Deeds.{Deed, deed_of, freed_by, given_by, registers_by}
 
 -- the block in each register serves a need of the heap's
 abbrev pub IsNeeded : Option HeldBlock → Type 0

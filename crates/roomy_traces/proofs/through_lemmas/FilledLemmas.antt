@@ -15,7 +15,8 @@ use Rattle.trace_text.specs.declared.trace.Op.{Op}
 use Rattle.lane_outcomes.specs.declared.registers.HeldBlock.{HeldBlock}
 use Rattle.lane_outcomes.specs.declared.outcome.Outcome.{Outcome}
 use Rattle.lane_outcomes.specs.Cached.{CachedPosition, CachedRow, IsGivenBy, cached_after, magazines_by}
-use Rattle.lane_outcomes.specs.Deeds.{Deed, deed_of, register_of, registers_by}
+use Rattle.trace_text.specs.Operations.{register_of}
+use Rattle.lane_outcomes.specs.Deeds.{Deed, deed_of, registers_by}
 use Rattle.lane_outcomes.specs.Deeds as deed
 use Rattle.lane_outcomes.specs.Lane.{held_in, registers_after, writing}
 use Rattle.lane_outcomes.specs.LaneCounts.{as_one}

@@ -9,7 +9,8 @@ use Rattle.trace_text.specs.Traces.{IsOp}
 use Rattle.trace_text.specs.declared.trace.Op.{Op}
 use Rattle.heap_geometry.specs.Need.{need_of}
 use Rattle.lane_outcomes.specs.declared.registers.HeldBlock.{HeldBlock}
-use Rattle.lane_outcomes.specs.Deeds.{Deed, deed_of, given_by, register_of}
+use Rattle.trace_text.specs.Operations.{register_of}
+use Rattle.lane_outcomes.specs.Deeds.{Deed, deed_of, given_by}
 use Rattle.lane_outcomes.specs.Deeds as deed
 use Rattle.lane_outcomes.specs.declared.outcome.Outcome.{Outcome}
 use Rattle.lane_outcomes.specs.declared.outcome.Outcome.TheVariants as outcome

@@ -35,7 +35,7 @@ use Rattle.roomy_traces.proofs.through_lemmas.SlotLemmas.{once-kept}
 use Rattle.roomy_traces.proofs.through_lemmas.UnrefusedLemmas.{beside-start, never-refused_through}
 use Rattle.roomy_traces.proofs.through_lemmas.UnspentLemmas.{cached-many, never-spent_through, plain-through}
 use Rattle.lane_outcomes.proofs.LanesLemmas.{Adds, cached-lane, walk-adds}
-use Rattle.lane_outcomes.specs.Deeds.{register_of}
+use Rattle.trace_text.specs.Operations.{register_of}
 
 -- a lane through a cache stands beside the lane computed on its own, with what its blocks contain
 record StandsThrough (g : Geometry) (setting : Setting) (legal : IsLegalWithoutCounts g setting.history) (position : CachedPosition) (filled : List (Option Filled)) (kept : List ℕ) : Type 0 where

@@ -50,6 +50,7 @@ pub enum LargePoint {
 }
 
 /// The action of a point.
+#[inline(always)]
 pub fn plan_large(point: &LargePoint) -> Action
     ensures { result ≡ plan_large_of point.now }
 {
@@ -91,6 +92,7 @@ pub fn plan_large(point: &LargePoint) -> Action
 /// Goes on to the point after what the action found; where the caller leaves, it answers by which
 /// exit, and the point stays as it was. A word that is not expected leaves the point as it is: one
 /// that is the prefix of no live run, or the word of no shelf.
+#[inline(always)]
 pub fn settle_large(at: &mut LargePoint, found: Found) -> Option<LargeExit>
     ensures exit { result ≡ exit_by (settle_large_of at.old found) }
     ensures point { at.new ≡ point_by at.old (settle_large_of at.old found) }

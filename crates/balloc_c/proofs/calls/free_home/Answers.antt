@@ -31,7 +31,7 @@ returns-in-Freed-clause-tends c =
     let is : block_at t.slots.items index ≡ Some (kept.Home block) = c.take_home-block.ensures.value in
     let told : IsFree s block free_answer.Freed c.free.new.self =
     record { kept = c.in-Freed.ensures.kept; asked = c.in-Freed.ensures.asked; depth = c.free.ensures.depth } in
-    gone-tends h s c.free.new.self t.slots.items c.take_home-block.new.self.slots.items c.retire.new.self.slots.items index block c.requires.tends
+    gone-tends h s c.free.new.self t.slots.items c.take_home-block.new.self.slots.items c.retire.new.self.slots.items index (kept.Home block) c.requires.tends
     c.requires.within is c.take_home-block.ensures.slots c.retire.ensures.aged.blocks c.retire.ensures.aged.same c.free.ensures.cache
     (λ held. free-goes h s c.free.new.self block free_answer.Freed held c.requires.tends.cache c.free.ensures.cache c.requires.idle told)
 
@@ -61,7 +61,7 @@ returns-in-Busy-clause-tends c =
     let is : block_at t.slots.items index ≡ Some (kept.Home block) = c.take_home-block.ensures.value in
     let told : IsFree s block free_answer.Busy c.free.new.self =
     record { kept = c.in-Busy.ensures.kept; asked = c.in-Busy.ensures.asked; depth = c.free.ensures.depth } in
-    gone-tends h s c.free.new.self t.slots.items c.take_home-block.new.self.slots.items c.retire.new.self.slots.items index block c.requires.tends
+    gone-tends h s c.free.new.self t.slots.items c.take_home-block.new.self.slots.items c.retire.new.self.slots.items index (kept.Home block) c.requires.tends
     c.requires.within is c.take_home-block.ensures.slots c.retire.ensures.aged.blocks c.retire.ensures.aged.same c.free.ensures.cache
     (λ held. free-goes h s c.free.new.self block free_answer.Busy held c.requires.tends.cache c.free.ensures.cache c.requires.idle told)
 

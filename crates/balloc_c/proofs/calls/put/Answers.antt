@@ -34,7 +34,7 @@ returns-in-Ok-clause-tends c =
     let is : block_at t.slots.items index ≡ Some (kept.Home block) = c.take_home-block.ensures.value in
     let idle : IsIdle s.pass.errand = search rules in
     let done : Result (Unit {0}) Full = Ok tt in
-    gone-tends h s c.put.new.self t.slots.items c.take_home-block.new.self.slots.items c.retire.new.self.slots.items index block c.requires.tends
+    gone-tends h s c.put.new.self t.slots.items c.take_home-block.new.self.slots.items c.retire.new.self.slots.items index (kept.Home block) c.requires.tends
     c.in-Some.ensures.found.0 is c.take_home-block.ensures.slots c.retire.ensures.aged.blocks c.retire.ensures.aged.same c.put.ensures.cache
     (λ held. put-goes h s c.put.new.self block c.args.shelf done held c.requires.tends.cache c.put.ensures.cache idle c.in-Ok.ensures.put tt c.put.ensures.keeps)
 

@@ -4,7 +4,7 @@ use Rattle.live_heap.specs.declared.block.Block.{Block}
 use Rattle.balloc_c.specs.declared.kept.Kept.TheVariants as kept
 use Rattle.balloc_c.specs.Lending.{words_for}
 use Rattle.balloc_c.specs.Outcomes.{HasAllocated}
-use Rattle.balloc_c.proofs.Enough.{block-enough, bytes-enough}
+use Rattle.balloc_c.proofs.Enough.{bytes-enough}
 use Rattle.balloc_c.proofs.LendingLemmas.{same-home}
 use Rattle.balloc_c.proofs.MemoryCalls.{has-given}
 use Rattle.balloc_c.proofs.Numbers.{slot-named}
@@ -51,7 +51,7 @@ returns-in-Ok-clause-answers c =
     let out = c.go_out.ensures.out in
     let same : g.block ≡ out.0.block = same-home g.block out.0.block (sym g.names.here ∙ out.3.was) in
     let enough : words_for c.args.bytes ≤ usable_words out.0.block.need =
-    subst (λ (b : Block). words_for c.args.bytes ≤ usable_words b.need) same (block-enough s e (words_for c.args.bytes) g.block g.few g.told) in (
+    subst (λ (b : Block). words_for c.args.bytes ≤ usable_words b.need) same g.enough in (
       Ok number,
       c.go_out.ensures.code,
       refl,

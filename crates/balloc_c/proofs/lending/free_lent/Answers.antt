@@ -1,20 +1,28 @@
-use Rattle.std.proofs.Common.{◌^◌, ◌%◌, ℕ, arith, ◌≡◌, Ok, refl, sym, ap, ◌∙◌, subst, inl, inr}
+use Rattle.std.proofs.Common.{ℕ, ◌≡◌, Ok, refl, sym, ap, ◌∙◌, subst, inl, inr}
 use Rattle.std.proofs.lemmas.Option.{same_Some}
 use Rattle.balloc_c.specs.declared.kept.Kept.TheVariants as kept
 use Rattle.balloc_c.specs.declared.lent.LentBlock.{LentBlock}
 use Rattle.balloc_c.specs.Kept.{memory_of}
 use Rattle.balloc_c.specs.Laid.{HasRoomFor, first_of}
-use Rattle.balloc_c.specs.Slots.{next_at}
+use Rattle.balloc_c.specs.Numbers.{number_at}
+use Rattle.balloc_c.specs.Slots.{after_at}
 use Rattle.balloc_c.specs.Lending.{FreesHome, IsRoomFor}
 use Rattle.balloc_c.specs.Tended.{Stands}
 use Rattle.balloc_c.proofs.LaidLemmas.{turned-tends}
 use Rattle.balloc_c.proofs.LendingLemmas.{same-lent}
 use Rattle.balloc_c.proofs.MemoryCalls.{nothing-left}
+use Rattle.balloc_c.proofs.Numbers.{names-itself}
 use Rattle.balloc_c.proofs.Packing.{few-same}
 use Rattle.balloc_c.proofs.lending.free_lent.Goals as goal
 
-pub lay-requires-clause-small : goal.lay-requires-clause-small
-lay-requires-clause-small c = let is = c.requires.is in omega (arith, is)
+pub lay-requires-clause-is : goal.lay-requires-clause-is
+lay-requires-clause-is c = (
+  c.requires.is,
+  ap (number_at c.args.table.now) c.requires.is ∙ names-itself c.args.table.now c.args.number c.requires.names,
+)
+
+pub room-requires-clause-out : goal.room-requires-clause-out
+room-requires-clause-out c = (c.requires.words.0, c.requires.words.2)
 
 pub returns-in-Some-clause-tends : goal.returns-in-Some-clause-tends
 returns-in-Some-clause-tends c =
@@ -44,17 +52,15 @@ returns-in-Some-clause-answers c =
       nothing-left (Ok tt) c.none.result.words c.none.ensures.2,
       inl (record {
         idle = c.requires.idle;
-        room = record { lent = laid.0; out = c.requires.named ∙ laid.1; class = c.in-Some.class; small = small; some = room.1 };
-        lent = laid.0;
-        was = c.requires.named ∙ laid.1;
-        words = c.into_words.result;
-        is = c.into_words.ensures;
+        room = record { it = kept.Out laid.0; is = c.requires.named ∙ laid.1; class = c.in-Some.class; small = small; some = room.1 };
+        now = kept.Laid (memory_of laid.0 c.into_words.result);
+        becomes = (c.into_words.result, c.into_words.ensures, refl);
         made = refl;
         nothing = c.none.ensures.2;
-        less = c.lay.ensures.less c.args.number c.requires.is c.requires.names;
-        ready = record { class = c.in-Some.class; small = small; ready = laid.3 };
+        less = c.lay.ensures.less c.requires.names;
+        ready = laid.3;
         fewer = c.lay.ensures.fewer;
-        chain = subst (λ (k : ℕ). next_at c.lay.new.self.slots.items k ≡ first_of c.args.table.now c.in-Some.class) c.requires.is c.lay.ensures.chain;
+        chain = subst (λ (k : ℕ). after_at c.lay.new.self.slots.items k ≡ first_of c.args.table.now.laid c.in-Some.class) c.requires.is c.lay.ensures.chain;
         still = refl;
       }),
     )

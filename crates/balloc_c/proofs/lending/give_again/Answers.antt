@@ -8,7 +8,7 @@ use Rattle.plain_words.specs.declared.plain.PlainWords.{PlainWords}
 use Rattle.live_heap.specs.declared.block.Block.{Block}
 use Rattle.live_heap.specs.declared.plain.Memory.{Memory}
 use Rattle.balloc_c.specs.declared.kept.Kept.TheVariants as kept
-use Rattle.balloc_c.specs.Laid.{first_of}
+use Rattle.balloc_c.specs.Laid.{slot_of}
 use Rattle.balloc_c.specs.Lending.{memory_at, words_for}
 use Rattle.balloc_c.specs.Tended.{IsOutAt, Stands}
 use Rattle.balloc_c.proofs.Enough.{bytes-enough, need-enough}
@@ -22,7 +22,7 @@ of_words-requires c =
     let t = c.args.table.now in
     let memory : Memory = c.lift-number.result.1 in
     let ready = c.lift-number.ensures.ready in
-    let stands : Stands h s.pass (Some (kept.Laid memory)) = subst (Stands h s.pass) ready.there (c.requires.tends.stand (first_of t c.args.class)) in
+    let stands : Stands h s.pass (Some (kept.Laid memory)) = subst (Stands h s.pass) ready.there (c.requires.tends.stand (slot_of t.laid c.args.class)) in
     let room = stands.1 in (
       c.start.ensures ∙ sym room.at ∙ ap (λ (w : PlainWords). w.at) (sym c.into_words.ensures),
       ap (λ (n : ℕ). n + 1) c.place.ensures ∙ sym room.first ∙ ap (λ (w : PlainWords). w.first) (sym c.into_words.ensures),
@@ -35,9 +35,9 @@ returns-clause-tends c =
     let t = c.args.table.now in
     let memory : Memory = c.lift-number.result.1 in
     let ready = c.lift-number.ensures.ready in
-    let stands : Stands h s.pass (Some (kept.Laid memory)) = subst (Stands h s.pass) ready.there (c.requires.tends.stand (first_of t c.args.class)) in
+    let stands : Stands h s.pass (Some (kept.Laid memory)) = subst (Stands h s.pass) ready.there (c.requires.tends.stand (slot_of t.laid c.args.class)) in
     let out = c.lift-number.ensures.out in
-    turned-tends h s t.slots.items c.lift-number.new.self.slots.items (first_of t c.args.class) (kept.Laid memory) (kept.Out out.0) c.requires.tends ready.there
+    turned-tends h s t.slots.items c.lift-number.new.self.slots.items (slot_of t.laid c.args.class) (kept.Laid memory) (kept.Out out.0) c.requires.tends ready.there
     out.2 out.1 (subst (λ (b : Block). IsOutAt h s.pass b.place b.need) (sym out.1) stands.0)
 
 pub returns-clause-count : goal.returns-clause-count
@@ -50,7 +50,7 @@ returns-clause-again c idle =
     let t = c.args.table.now in
     let memory : Memory = c.lift-number.result.1 in
     let ready = c.lift-number.ensures.ready in
-    let stands : Stands h s.pass (Some (kept.Laid memory)) = subst (Stands h s.pass) ready.there (c.requires.tends.stand (first_of t c.args.class)) in
+    let stands : Stands h s.pass (Some (kept.Laid memory)) = subst (Stands h s.pass) ready.there (c.requires.tends.stand (slot_of t.laid c.args.class)) in
     let bytes = c.args._bytes in
     let room = stands.1 in
     let out = c.lift-number.ensures.out in
@@ -73,8 +73,6 @@ returns-clause-again c idle =
       aligned = omega (arith, first, even);
       lent = out.0;
       token = out.1;
-      more = out.3;
-      left = c.lift-number.ensures.further;
-      next = c.lift-number.ensures.next;
+      again = out.3;
       still = refl;
     }

@@ -1,8 +1,9 @@
-use Rattle.std.proofs.Common.{ℕ, rules, false, true≢false, sym, ◌∙◌, ◌≡◌, ◌<◌, ◌≤◌, None, subst}
+use Rattle.std.proofs.Common.{ℕ, rules, false, true≢false, sym, ◌∙◌, ◌≡◌, ◌<◌, subst}
 use Rattle.heap_geometry.specs.declared.limits.TheConstants.{SMALL_MOST}
 use Rattle.heap_geometry.specs.Need.{need_of}
 use Rattle.errand_steps.specs.Points.{is_idle}
 use Rattle.live_heap.specs.declared.plain.Memory.{Memory}
+use Rattle.balloc_c.specs.declared.kept.Kept.TheVariants as kept
 use Rattle.balloc_c.specs.Laid.{IsReady}
 use Rattle.balloc_c.specs.Lending.{words_for}
 use Rattle.balloc_c.proofs.Enough.{no-class}
@@ -20,4 +21,4 @@ returns-then-not-is_small-clause-none c none idle memory ready =
 
 pub returns-clause-none : goal.returns-clause-none
 returns-clause-none c none idle =
-    subst (λ (n : ℕ). (memory : Memory) → ¬ IsReady c.args.table.now (need_of n) memory) c.least_words.ensures (c.ready.ensures.none none)
+    subst (λ (n : ℕ). (memory : Memory) → ¬ IsReady c.args.table.now (need_of n) (kept.Laid memory)) c.least_words.ensures (c.ready.ensures.none none)

@@ -1,19 +1,40 @@
-use Rattle.std.proofs.Common.{◌≡◌, Some, true≢false, sym, ap, ◌∙◌}
-use Rattle.std.proofs.lemmas.Bool.Decides.{eqb_tells}
-use Rattle.heap_geometry.specs.declared.need.Need.TheVariants.{Small}
+use Rattle.std.proofs.Common.{ℕ, ◌≡◌, ◌%◌, ◌^◌, Some, sym, ap, ◌∙◌}
+use Rattle.live_heap.specs.declared.plain.Memory.{Memory}
 use Rattle.balloc_c.specs.declared.kept.Kept.{Kept}
+use Rattle.balloc_c.specs.declared.kept.Kept.TheVariants as kept
+use Rattle.balloc_c.specs.Laid.{slot_of}
+use Rattle.balloc_c.specs.Numbers.{number_at}
 use Rattle.balloc_c.specs.Slots.{block_at}
-use Rattle.balloc_c.proofs.Slots.{by_case}
+use Rattle.balloc_c.proofs.LendingLemmas.{same-laid}
+use Rattle.balloc_c.proofs.Tending.{within-of}
 use Rattle.balloc_c.proofs.table.Table.is_ready.Goals as goal
 
-pub returns-in-Small-clause-yes : goal.returns-in-Small-clause-yes
-returns-in-Small-clause-yes c same =
-    let own : c.in-Small.own ≡ c.args.class =
-    by_case (λ is. is.1) (λ other. absurd (true≢false (sym same ∙ other.0))) (eqb_tells c.in-Small.own c.args.class) in (
+pub returns-then-not-is_aged-clause-no : goal.returns-then-not-is_aged-clause-no
+returns-then-not-is_aged-clause-no c told memory ready =
+    let t = c.args.self.now in
+    let at : c.args.index ≡ slot_of t.laid c.args.class = c.requires.at ∙ ap (λ (n : ℕ). n % 2 ^ 32) c.requires.first in
+    let first : number_at t c.args.index ≡ c.args.first = ap (number_at t) at ∙ ready.number ∙ sym c.requires.first in
+    let there = ap (block_at t.slots.items) at ∙ ready.there in
+    c.is_aged.ensures.no c.if-not-is_aged.true (within-of t.slots.items c.args.index (kept.Laid memory) there) first
+
+pub returns-clause-yes : goal.returns-clause-yes
+returns-clause-yes c told =
+    let t = c.args.self.now in
+    let at : c.args.index ≡ slot_of t.laid c.args.class = c.requires.at ∙ ap (λ (n : ℕ). n % 2 ^ 32) c.requires.first in (
       c.in-Laid.memory,
       record {
-        serves = sym c.need.ensures ∙ c.in-Small.is ∙ ap Small own;
-        there = ap (block_at c.args.self.now.slots.items) (sym c.requires) ∙ sym c.block.ensures ∙ c.in-Some.is
+        serves = sym c.need.ensures ∙ c.is_small.ensures.yes told;
+        there = ap (block_at t.slots.items) (sym at) ∙ sym c.block.ensures ∙ c.in-Some.is
             ∙ ap (λ (k : Kept). Some k) c.in-Laid.is;
+        number = ap (number_at t) (sym at) ∙ (c.is_aged.ensures.yes c.if-not-is_aged.false).1 ∙ c.requires.first;
       },
     )
+
+pub returns-clause-no : goal.returns-clause-no
+returns-clause-no c told memory ready =
+    let t = c.args.self.now in
+    let at : c.args.index ≡ slot_of t.laid c.args.class = c.requires.at ∙ ap (λ (n : ℕ). n % 2 ^ 32) c.requires.first in
+    let there = ap (block_at t.slots.items) at ∙ ready.there in
+    let read = sym c.block.ensures ∙ c.in-Some.is ∙ ap (λ (k : Kept). Some k) c.in-Laid.is in
+    let same : memory ≡ c.in-Laid.memory = same-laid memory c.in-Laid.memory (sym there ∙ read) in
+    c.is_small.ensures.no told (c.need.ensures ∙ ap (λ (m : Memory). m.block.need) (sym same) ∙ ready.serves)

@@ -1,7 +1,7 @@
 use Rattle.std.proofs.Common.{◌≡◌, ◌∙◌, ap, arith, slice_index_or, sym}
 use Rattle.memory_cache.specs.declared.page.Slot.TheVariants.{Out}
 use Rattle.memory_cache.specs.Pages.{slot_at}
-use Rattle.memory_cache.proofs.PageLemmas.{home-in, same-piece}
+use Rattle.memory_cache.proofs.PageLemmas.{home-in}
 use Rattle.memory_cache.proofs.page.Page.number_out.Goals as goal
 
 pub returns-in-Home-clause-none : goal.returns-in-Home-clause-none

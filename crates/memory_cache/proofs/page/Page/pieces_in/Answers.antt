@@ -1,4 +1,4 @@
-use Rattle.std.proofs.Common.{◌≡◌, ◌*◌, ◌/◌, ◌<◌, ◌∙◌, ap, subst}
+use Rattle.std.proofs.Common.{◌*◌, ◌/◌, ◌<◌, ◌∙◌, ap, subst}
 use Rattle.memory_cache.proofs.PageLemmas.{tells-number}
 use Rattle.memory_cache.proofs.page.Page.pieces_in.Goals as goal
 

@@ -1,4 +1,4 @@
-use Rattle.std.proofs.Common.{arith, refl, sym, inl, ◌∙◌}
+use Rattle.std.proofs.Common.{arith, refl, sym, ◌∙◌}
 use Rattle.std.proofs.lemmas.Bool.{false≢true}
 use Rattle.memory_cache.proofs.PagedLemmas.{acts-through, behind-through, same-behind, same-out, then-out, then-same, whole-on}
 use Rattle.memory_cache.proofs.TableLemmas.{pages-is}

@@ -1,5 +1,4 @@
-use Rattle.std.proofs.Common.{rules, ◌≡◌, ◌∙◌, refl}
-use Rattle.trace_lane.specs.declared.stage.OperationStage.TheVariants as stage
+use Rattle.std.proofs.Common.{rules, ◌≡◌, ◌∙◌, None, refl}
 use Rattle.trace_lane.proofs.LaneNext.{begun-more, next-ready, onward-next, onward-none}
 use Rattle.trace_lane.proofs.lane.LaneState+Grip.begin_next.Goals as goal
 
@@ -38,7 +37,7 @@ returns-then-not-is_between-2-clause-advanced g c =
 
 pub loop-op-preserved : goal.loop-op-preserved
 loop-op-preserved g c =
-    let between : c.start.new.self.stage ≡ stage.Between = search rules in
+    let between : c.start.new.self.work ≡ None = search rules in
     let next =
     onward-next c.loop-op.invariant.so c.loop-op.op c.number_of.result _ c.steps.ensures.rule c.loop-op.invariant.between
     c.loop-op.invariant.here c.loop-op-test.true c.start.ensures.begun c.number_of.ensures c.pass.ensures in
@@ -46,6 +45,6 @@ loop-op-preserved g c =
       so = next.advanced;
       same = next.no_event ∙ c.loop-op.invariant.same;
       between = between;
-      here = begun-more c.loop-op.self.outcomes.items c.start.new.self.outcomes.items c.start.new.self.stage c.loop-op.op between next.count
+      here = begun-more c.loop-op.self.outcomes.items c.start.new.self.outcomes.items c.start.new.self.work c.loop-op.op between next.count
           c.loop-op.invariant.here;
     }

@@ -1,5 +1,4 @@
-use Rattle.std.proofs.Common.{◌≡◌, false, length}
-use Rattle.trace_lane.specs.declared.stage.OperationStage.TheVariants as stage
+use Rattle.std.proofs.Common.{◌≡◌, None, false, length}
 use Rattle.trace_lane.proofs.Common.{AdvancesOn}
 use Rattle.trace_lane.proofs.lane.LaneState+Grip.begin_next.Given as goal
 
@@ -7,6 +6,6 @@ abbrev pub invariant-loop-op : goal.invariant-loop-op
 invariant-loop-op g l = record {
   so : AdvancesOn (g.G.Gate.passed l.gate) l.operations l.fn.core l.core l.fn.self l.self false;
   same : l.core.events ≡ l.fn.core.events;
-  between : l.self.stage ≡ stage.Between;
+  between : l.self.work ≡ None;
   here : length l.self.outcomes.items ≡ l.op;
 }
