@@ -106,9 +106,6 @@ not-served c (Small class) none =
 not-served c (Large units) none = refl
 not-served c TooLarge none = refl
 
-pub not-given : (c : Cache) (need : Need) → ¬ HasFor c need → magazines_given (places_in c) need ≡ places_in c
-not-given c need none = ap (λ served. given_from served (places_in c) need) (not-served c need none)
-
 -- a magazine has room for a block, or has none
 pub room-kept : (c : Cache) (need : Need) → HasRoom c need → is_kept c.magazines.depth (places_in c) need ≡ true
 room-kept c need (class, small, room) =

@@ -1,21 +1,24 @@
 -- The outcomes of a lane so far fit the events that are seen.
 use Rattle.std.proofs.Common.{ℕ, true, ◌≡◌, ◌<◌, ◌≤◌, ◌∷◌, ◌++◌, List, [], Option, Some, None, length, take, refl, sym, ap, ◌∙◌, subst, arith, append_assoc, append-nil}
-use Rattle.trace_lane.proofs.Common.{Geometry, Event, Call, ErrandFields, Reply, LeadsBy, Made, Op, Caller, IsAtRest, IsCall, MadeBy, OwnsFor, HeldBlock, Outcome, Setting}
-use Rattle.trace_lane.proofs.Common.{Work, AllMadeFor, IsLane, StandsBy, Walks, Position, at_once, by_steps, new_caller, true≢false, slice_index_or, own}
-use Rattle.trace_lane.proofs.Common.{own-append, setting_in, leads-split, position_after}
+use Rattle.trace_lane.proofs.Common.{Geometry, Event, Call, ErrandFields, Reply, LeadsBy, Made, Op, Caller, IsAtRest, IsCall, MadeBy, OwnsFor, HeldBlock, Outcome}
+use Rattle.trace_lane.proofs.Common.{Work, AllMadeFor, IsLane, StandsBy, Walks, at_once, by_steps, new_caller, true≢false, slice_index_or, own}
+use Rattle.trace_lane.proofs.Common.{own-append, setting_in, leads-split}
 use Rattle.std.proofs.lemmas.List.{take_all}
 use Rattle.lane_outcomes.specs.declared.outcome.Outcome.TheVariants as outcome
 use Rattle.lane_outcomes.specs.Fits.{Fits}
 use Rattle.lane_outcomes.specs.Lane.{start}
 use Rattle.lane_outcomes.proofs.FitLemmas.{walks-later}
-use Rattle.lane_outcomes.proofs.SpentLemmas.{told-spent}
+use Rattle.lane_outcomes.proofs.SpentLemmas.{told-through}
+use Rattle.lane_outcomes.specs.Cached.{CachedPosition}
+use Rattle.lane_outcomes.proofs.RoomLemmas.{plain, walks-plain}
 use Rattle.trace_lane.proofs.AnswerLemmas.{HasMovedOn}
 use Rattle.trace_lane.proofs.CallerLemmas.{Owns, ends-called, in-begun, in-way, leads-first, leads-rest, moved-none, moved-then}
 use Rattle.trace_lane.proofs.EndedLemmas.{lane-resting}
 use Rattle.trace_lane.proofs.MakingLemmas.{empty}
 use Rattle.trace_lane.proofs.OwnLemmas.{empty-holds}
-use Rattle.trace_lane.proofs.RowLemmas.{IsBetween, setting_at}
-use Rattle.trace_lane.proofs.WalkLemmas.{HasWalked, all-walk}
+use Rattle.trace_lane.proofs.RowLemmas.{setting_at}
+use Rattle.trace_lane.proofs.ThroughLemmas.{alone, bare, stands_at}
+use Rattle.trace_lane.proofs.WalkLemmas.{HasWalked, Stands, all-walk}
 use Rattle.trace_lane.proofs.MadeLemmas.{all-made}
 
 -- whole calls move their caller on
@@ -35,19 +38,10 @@ leads-moved g (m ∷ made) c d (t, one, leads) =
     let rest = leads-moved g made t d leads in
     (first.0 ++ rest.0, moved-then c.errand t.errand d.errand c.seen t.seen d.seen first.0 rest.0 first.1 rest.1)
 
--- as many operations have walked as have outcomes
-used-first :
-    (setting : Setting) (from to : Position) (used rest : List Op) (results : List Outcome) → Walks setting from used results to
-    → take (length results) (used ++ rest) ≡ used
-used-first setting from to [] rest [] walks = refl
-used-first setting from to (operation ∷ used) rest (result ∷ results) (piece, row, walks) =
-    ap (λ xs. operation ∷ xs) (used-first setting (position_after from operation result piece) to used rest results walks)
-used-first setting from to used rest results walks = absurd walks
-
 -- a new lane is before its first operation
-new-between : (g : Geometry) (caller : ℕ) → IsAtRest g (new_caller caller g) → IsBetween g (new_caller caller g) start
-new-between g caller rests = record {
-  rests = rests;
+new-stands : (g : Geometry) (caller : ℕ) → IsAtRest g (new_caller caller g) → Stands (alone g) (new_caller caller g) start
+new-stands g caller rests = record {
+  stands = rests;
   done = refl;
   answered = refl;
   spent = λ is. absurd (true≢false (sym is));
@@ -57,7 +51,7 @@ new-between g caller rests = record {
 -- what a lane has walked when its caller stood behind its last outcome
 pub record HasCome (g : Geometry) (caller : ℕ) (events : List Event) (e : ErrandFields) (operations : List Op) (results : List Outcome) : Type 0 where
   pub last : Caller
-  pub walked : HasWalked g (new_caller caller g) last start operations results
+  pub walked : HasWalked (alone g) (new_caller caller g) last start 0 operations results
   pub more : List Event
   pub seen : events ≡ last.seen ++ more
   pub lost : last.errand.lost ≤ e.lost
@@ -74,7 +68,7 @@ come-by g caller events e operations results past present now sight others seen 
     let s = parts.0 in
     let first_rests = leads-first g first now (past ++ present) rests leads in
     let s_rests = leads-rest g first s past first_rests parts.1 in
-    let walked = all-walk g operations results first s start (new-between g caller first_rests) (all-made (IsCall g) empty operations results past first s all parts.1) in
+    let walked = all-walk (alone g) operations results first s start 0 (new-stands g caller first_rests) (all-made (IsCall g) empty operations results past first s all parts.1) in
     let moved = leads-moved g present s now parts.2 in
     let whole = moved-then s.errand now.errand e s.seen now.seen sight moved.0 piece moved.1 on in
     let heap : s.errand.geometry ≡ g = s_rests.served.own_errand.geometry in
@@ -107,15 +101,13 @@ pub come-fits :
     → Walks (setting_in events caller g.turn_limit lost) start (take (length results) operations) results come.walked.end
 come-fits {g = g} {caller = caller} {events = events} {operations = operations} {results = results} come lost more =
     let w = come.walked in
+    let ops = take (length results) operations in
     let setting = setting_at g (new_caller caller g) come.last in
     let least = come.lost in
-    let later =
-    walks-later setting come.more lost (omega (arith, least, more)) start w.end w.used results w.walks in
-    let here : Walks (setting_in events caller g.turn_limit lost) start w.used results w.end =
-    subst (λ h. Walks (setting_in h caller g.turn_limit lost) start w.used results w.end) (sym come.seen) later in
-    let used : take (length results) operations ≡ w.used =
-    ap (λ ops. take (length results) ops) w.cut ∙ used-first setting start w.end w.used w.rest results w.walks in
-    subst (λ ops. Walks (setting_in events caller g.turn_limit lost) start ops results w.end) (sym used) here
+    let it = walks-plain setting start (stands_at (bare come.last) w.end w.served) ops results w.walks in
+    let walks : Walks setting start ops results w.end = subst (Walks setting start ops results) (sym (ap (λ (p : CachedPosition). p.base) it.1)) it.2 in
+    subst (λ h. Walks (setting_in h caller g.turn_limit lost) start ops results w.end) (sym come.seen)
+    (walks-later setting come.more lost (omega (arith, least, more)) start w.end ops results walks)
 
 -- what a lane at rest has added is what its outcomes tell
 pub record HasEndedSo (g : Geometry) (caller : ℕ) (events : List Event) (e : ErrandFields) (operations : List Op) (results : List Outcome) : Type 0 where
@@ -138,7 +130,7 @@ module _ {g : Geometry} {caller : ℕ} {events : List Event} {e : ErrandFields} 
       let first = new_caller caller g in
       let first_rests = leads-first g first now r.made r.rests r.leads in
       let walked =
-      all-walk g operations results first now start (new-between g caller first_rests) (all-made (IsCall g) empty operations results r.made first now r.all r.leads) in
+      all-walk (alone g) operations results first now start 0 (new-stands g caller first_rests) (all-made (IsCall g) empty operations results r.made first now r.all r.leads) in
       let heap : e.geometry ≡ g = r.rests.served.own_errand.geometry in
       let come : HasCome g caller events e operations results = record {
         last = now;
@@ -176,4 +168,6 @@ module _ {g : Geometry} {caller : ℕ} {events : List Event} {e : ErrandFields} 
   lane-spent k between below is =
       let ended = lane-ended between in
       let w = ended.come.walked in
-      ended.turns (told-spent (setting_at g (new_caller caller g) ended.come.last) start w.end w.used results k w.walks below is)
+      ended.turns
+      (told-through (setting_at g (new_caller caller g) ended.come.last) 0 (plain start) (stands_at (bare ended.come.last) w.end w.served)
+      (take (length results) operations) results k w.walks below is)

@@ -19,6 +19,7 @@ pub mod RowLemmas
 pub mod ScriptLemmas
 pub mod StandLemmas
 pub mod StepLemmas
+pub mod ThroughLemmas
 pub mod TurnLemmas
 pub mod WalkLemmas
 pub mod WorkLemmas

@@ -21,15 +21,13 @@ use Rattle.trace_lane.proofs.PartLemmas.{set-there}
 use Rattle.std.specs.Prelude.{◌⊎◌, ◌≢◌}
 use Rattle.lane_outcomes.specs.Deeds as deed
 use Rattle.std.proofs.Common.{◌+◌, ◌%◌, ◌^◌, append-nil, zero-add}
-use Rattle.trace_lane.proofs.Common.{Geometry, Event, Free, Put, Take, TakeNone, Caller, IsCall, Position, IsWord, Setting, own, register_of, leads-split, filling, writing}
+use Rattle.trace_lane.proofs.Common.{Geometry, Event, Put, Take, TakeNone, Caller, IsCall, Position, IsWord, Setting, own, register_of, filling}
 use Rattle.pool_model.specs.Calls.{alloc_given, alloc_refused}
 use Rattle.pool_model.specs.Calls as event_end
 use Rattle.lane_outcomes.specs.Rows.{RowAt, CheckRow}
 use Rattle.trace_lane.specs.Made.{Skips}
-use Rattle.trace_lane.proofs.AddedLemmas.{HasAdded, HasKept, HasTakenOff, added-none, added-then, full-added, got-added, reads-kept, takes-added, value_of, whole-added, writes-added}
-use Rattle.trace_lane.proofs.CallerLemmas.{caller-laws}
-use Rattle.trace_lane.proofs.QuietLemmas.{quiet-giving}
-use Rattle.trace_lane.proofs.RowLemmas.{HasGone, IsBetween, copies, gives, gone, moment-first, moment-last, none-added, one-added, one-call, owns-it, refusal, setting_at, spending, zip-of}
+use Rattle.trace_lane.proofs.AddedLemmas.{HasAdded, HasKept, HasTakenOff, added-none, added-then, full-added, got-added, reads-kept, takes-added, whole-added, writes-added}
+use Rattle.trace_lane.proofs.RowLemmas.{HasGone, IsBetween, gone, moment-first, moment-last, none-added, one-added, one-call, owns-it, refusal, setting_at, spending, zip-of}
 
 -- a block is handed out by one call, and the others are on words, or takes
 abbrev pub HandsOut : ℕ → Need → List Made → Type 0
@@ -337,7 +335,14 @@ skip-row setting position (op.Take r shelf) None skips = absurd skips
 skip-row setting position operation None skips = refl
 skip-row setting position operation (Some held) skips = absurd skips
 
--- an operation that was made
+-- a deed that neither gives a block for a need nor frees one
+abbrev pub IsHeaps : Deed → Type 0
+IsHeaps (deed.gives need v words place) = ⊥
+IsHeaps (deed.replaces need words place) = ⊥
+IsHeaps deed.frees = ⊥
+IsHeaps done = Unit {0}
+
+-- an operation that was made, whose block no magazine could give or keep
 module _ (g : Geometry) (c d : Caller) (base : Position) (st : IsBetween g c base) where
   abbrev caller : ℕ
   caller = c.errand.caller
@@ -347,33 +352,21 @@ module _ (g : Geometry) (c d : Caller) (base : Position) (st : IsBetween g c bas
 
   pub op-gone :
       (operation : Op) (result : Outcome) (slot : Option HeldBlock) (made : List Made) → held_in base.registers (register_of operation) ≡ slot
-      → MadeFor slot operation result made → Leads made → HasGone g c d base operation result
-  op-gone operation outcome.Skipped slot made is (skip, none) leads =
+      → MadeFor slot operation result made → Leads made → IsHeaps (deed_of operation result) → HasGone g c d base operation result
+  op-gone operation outcome.Skipped slot made is (skip, none) leads heaps =
       gone g c d base st operation outcome.Skipped slot [] is (none-added g c d base st (subst Leads none leads)) (skip-row (setting_at g c d) base operation slot skip) (λ is. absurd (cc))
-  op-gone (op.Alloc r need v) (outcome.Given words place) None made is (words_are, calls) leads =
-      let (t, one, more) = subst Leads calls leads in
-      let x = gives g c d base st need place t one in
-      let fills = filling caller place words v in
-      let wrote_so : HasAdded g t d fills =
-      subst (λ k. HasAdded g t d (filling k place words v)) x.added.moved.same_caller
-      (writes-added g place (need_of need) (λ (i : ℕ). (v + i) % 2 ^ 64) words 0 t d x.added.rests more) in
-      gone g c d base st (op.Alloc r need v) (outcome.Given words place) None (x.calls ++ fills) is (added-then g c t d x.calls fills x.added wrote_so)
-      (x.asks, words_are, x.calls, x.events, refl) (λ is. absurd (cc))
-  op-gone (op.Alloc r need v) outcome.Refused None made is calls leads =
+  op-gone (op.Alloc r need v) (outcome.Given words place) slot made is for leads heaps = absurd heaps
+  op-gone (op.Alloc r need v) outcome.Refused None made is calls leads heaps =
       let (piece, added, may, events) = refusal g c d base st need made calls leads in
       gone g c d base st (op.Alloc r need v) outcome.Refused None piece is added (may, events) (λ is. absurd (cc))
-  op-gone (op.Alloc r need v) outcome.Spent None made is calls leads =
+  op-gone (op.Alloc r need v) outcome.Spent None made is calls leads heaps =
       let (piece, added, row, limit) = spending g c d base st need made calls leads in
       gone g c d base st (op.Alloc r need v) outcome.Spent None piece is added row (λ is. limit)
-  op-gone (op.Free r) outcome.Freed (Some held) made is (words, calls) leads =
-      let piece : List Event = Free caller held.place ∷ [] in
-      gone g c d base st (op.Free r) outcome.Freed (Some held) piece is
-      (one-added g c d base st made (free held.place held.need) reply.Freed (event_end.freed held.place) piece calls leads (λ words is spent. cc) refl (λ more is. is))
-      refl (λ is. absurd (cc))
-  op-gone (op.Fill r v) outcome.Filled (Some held) made is (words, calls) leads =
+  op-gone (op.Free r) outcome.Freed slot made is for leads heaps = absurd heaps
+  op-gone (op.Fill r v) outcome.Filled (Some held) made is (words, calls) leads heaps =
       gone g c d base st (op.Fill r v) outcome.Filled (Some held) (filling caller held.place held.words v) is
       (writes-added g held.place held.need (λ (i : ℕ). (v + i) % 2 ^ 64) held.words 0 c d st.rests (subst Leads calls leads)) refl (λ is. absurd (cc))
-  op-gone (op.Check r) (outcome.Sum total) (Some held) made is (words_are, (words, all, total_is, calls)) leads =
+  op-gone (op.Check r) (outcome.Sum total) (Some held) made is (words_are, (words, all, total_is, calls)) leads heaps =
       let (block, live, mine, long) = owns-it g c d base st r held is in
       let first : HasKept g c held.place block mine c [] = record { has = added-none g c st.rests; still = live } in
       let read = reads-kept g c held.place block mine held.need words 0 c d first (subst Leads calls leads) in
@@ -390,16 +383,16 @@ module _ (g : Geometry) (c d : Caller) (base : Position) (st : IsBetween g c bas
         },
       ) in
       gone g c d base st (op.Check r) (outcome.Sum total) (Some held) [] is read.0.has summed (λ is. absurd (cc))
-  op-gone (op.Put r shelf) outcome.Put (Some held) made is (words, calls) leads =
+  op-gone (op.Put r shelf) outcome.Put (Some held) made is (words, calls) leads heaps =
       let piece : List Event = Put caller held.place shelf ∷ [] in
       gone g c d base st (op.Put r shelf) outcome.Put (Some held) piece is
       (one-added g c d base st made (put held.place held.need shelf) reply.Put (event_end.put_done held.place shelf) piece calls leads (λ words is spent. cc) refl
       (λ more is. is)) refl (λ is. absurd (cc))
-  op-gone (op.Put r shelf) outcome.ShelfFull (Some held) made is (words, (found, calls)) leads =
+  op-gone (op.Put r shelf) outcome.ShelfFull (Some held) made is (words, (found, calls)) leads heaps =
       let (added, lies) =
       full-added g c d held.place held.need shelf found (one-call g c d base st made (put held.place held.need shelf) (reply.Full found) calls leads) in
       gone g c d base st (op.Put r shelf) outcome.ShelfFull (Some held) [] is added (refl, moment-last g c d base st added, lies) (λ is. absurd (cc))
-  op-gone (op.Take r shelf) (outcome.Took words place need) None made is (misses, are, words_are, calls) leads =
+  op-gone (op.Take r shelf) (outcome.Took words place need) None made is (misses, are, words_are, calls) leads heaps =
       let (t, first, last) = takes-added g shelf (reply.Got place need) misses c d are st.rests (subst Leads calls leads) in
       let got = got-added g t d shelf place need last in
       let off : HasTakenOff t d shelf place need = got.1 in
@@ -418,42 +411,23 @@ module _ (g : Geometry) (c d : Caller) (base : Position) (st : IsBetween g c bas
         words_are ∙ ap usable_words off.need_is,
         off.need_is,
       ) (λ is. absurd (cc))
-  op-gone (op.Take r shelf) outcome.ShelfEmpty None made is (misses, are, calls) leads =
+  op-gone (op.Take r shelf) outcome.ShelfEmpty None made is (misses, are, calls) leads heaps =
       let (t, first, last) = takes-added g shelf reply.Empty misses c d are st.rests (subst Leads calls leads) in
       let piece : List Event = TakeNone caller shelf ∷ [] in
       let one : HasAdded g t d piece =
       whole-added g t d (take shelf) reply.Empty (event_end.take_empty shelf) piece last (λ words is spent. cc) refl
       (λ more is. is ∙ ap (λ k. TakeNone k shelf ∷ []) first.moved.same_caller) in
       gone g c d base st (op.Take r shelf) outcome.ShelfEmpty None piece is (added-then g c t d [] piece first one) refl (λ is. absurd (cc))
-  op-gone (op.Resize r need) (outcome.Kept words place) (Some held) made is (serves, words_are, place_is, calls) leads =
+  op-gone (op.Resize r need) (outcome.Kept words place) (Some held) made is (serves, words_are, place_is, calls) leads heaps =
       gone g c d base st (op.Resize r need) (outcome.Kept words place) (Some held) [] is (none-added g c d base st (subst Leads calls leads)) (refl, serves, words_are, place_is)
       (λ is. absurd (cc))
-  op-gone (op.Resize r need) (outcome.Resized words place) (Some held) made is (differ, words_are, has, found, all, calls) leads =
-      let (t, one, more) = subst Leads calls leads in
-      let n = need_of need in
-      let x = gives g c d base st need place t one in
-      let release = free held.place held.need in
-      let apart : held.place ≢ place =
-      (caller-laws g).apart c t (alloc need) (reply.Given place n) place held.place n held.need one (refl, refl) (st.holds.owned r held is) in
-      let parts = leads-split (IsCall g) t d (copied held.place held.need place n found words) (answered release reply.Freed ∷ []) more in
-      let u = parts.0 in
-      let writes = writing caller place words (value_of found) in
-      let (copied_so, copy) = copies g c d base st r words place held n found t u x.calls is has all apart x.added
-      (quiet-giving held.place caller need place n x.calls x.events) parts.1 in
-      let freed_one : IsCall g u release reply.Freed d = subst (λ y. IsCall g u release reply.Freed y) (sym parts.2.2) parts.2.1 in
-      let frees : HasAdded g u d (Free caller held.place ∷ []) =
-      whole-added g u d release reply.Freed (event_end.freed held.place) (Free caller held.place ∷ []) freed_one (λ words is spent. cc) refl
-      (λ more is. is ∙ ap (λ k. Free k held.place ∷ []) copied_so.moved.same_caller) in
-      let piece = x.calls ++ writes ++ Free caller held.place ∷ [] in
-      let added : HasAdded g c d piece = added-then g c u d (x.calls ++ writes) (Free caller held.place ∷ []) copied_so frees in
-      gone g c d base st (op.Resize r need) (outcome.Resized words place) (Some held) piece is added
-      (differ, x.asks, words_are, x.calls, x.events, value_of found, copy piece added, refl) (λ is. absurd (cc))
-  op-gone (op.Resize r need) outcome.Refused (Some held) made is (differ, calls) leads =
+  op-gone (op.Resize r need) (outcome.Resized words place) slot made is for leads heaps = absurd heaps
+  op-gone (op.Resize r need) outcome.Refused (Some held) made is (differ, calls) leads heaps =
       let (piece, added, may, events) = refusal g c d base st need made calls leads in
       gone g c d base st (op.Resize r need) outcome.Refused (Some held) piece is added (differ, may, events) (λ is. absurd (cc))
-  op-gone (op.Resize r need) outcome.Spent (Some held) made is (differ, calls) leads =
+  op-gone (op.Resize r need) outcome.Spent (Some held) made is (differ, calls) leads heaps =
       let (piece, added, row, limit) = spending g c d base st need made calls leads in
       gone g c d base st (op.Resize r need) outcome.Spent (Some held) piece is added (differ, row) (λ is. limit)
-  op-gone (op.Alloc r need v) result None made is calls leads = absurd calls
-  op-gone operation result None made is calls leads = absurd calls
-  op-gone operation result (Some held) made is calls leads = absurd calls
+  op-gone (op.Alloc r need v) result None made is calls leads heaps = absurd calls
+  op-gone operation result None made is calls leads heaps = absurd calls
+  op-gone operation result (Some held) made is calls leads heaps = absurd calls

@@ -2,7 +2,7 @@
 use Rattle.std.proofs.Common.{ℕ, zero, suc, Bool, true, false, eqb, ◌≡◌, ◌≤◌, ◌+◌, ◌%◌, ◌^◌, ◌&&◌, ◌∷◌, ◌++◌, List, [], append-nil, Option, Some, None, refl, sym, ap, ◌∙◌, inl, inr, arith}
 use Rattle.std.specs.List.{AllByRecursion}
 use Rattle.trace_lane.proofs.Common.{Geometry, Need, Small, Large, TooLarge, Event, ErrandFields, IsServed, Op, Outcome, Deed, LARGE_MOST, SMALL_MOST, IsGiving, EventsOf}
-use Rattle.trace_lane.proofs.Common.{Alloc, Looked, Refuse, TakeNone, Write, IsIdle, Position, IsSpent, MayAsk, Moment, FitsRow, Setting, count_by, is_spent, deed_of}
+use Rattle.trace_lane.proofs.Common.{Alloc, Looked, Refuse, TakeNone, Write, IsIdle, Position, IsSpent, MayAsk, Moment, Setting, count_by, is_spent, deed_of}
 use Rattle.trace_lane.proofs.Common.{register_of, true≢false, cases_Bool, eq-eqb, setting_in, sum_by-append, alloc_spent, looks, caller_of, own, begins_with, alloc_answer}
 use Rattle.trace_lane.proofs.Common.{is_idle, filling, writing}
 use Rattle.std.specs.Prelude.{if◌then◌else◌, nat_le}
@@ -18,8 +18,7 @@ use Rattle.lane_outcomes.specs.Lane.{answered_after, answered_with, is_small}
 use Rattle.lane_outcomes.specs.Rows.{gives_another_small}
 use Rattle.lane_outcomes.specs.Deeds as deed
 use Rattle.lane_outcomes.proofs.FillLemmas.{writes_of}
-use Rattle.lane_outcomes.specs.Magazines.{empty_magazines, freeing, is_kept, magazines_given, served_by}
-use Rattle.lane_outcomes.proofs.RoomLemmas.{none-served, plain, row-room}
+use Rattle.lane_outcomes.specs.Magazines.{freeing, is_kept, magazines_given, served_by}
 use Rattle.lane_outcomes.specs.Cached.{CachedPosition, CachedRow, IsGivenBy, answered_by, served_for, served_with}
 use Rattle.lane_outcomes.proofs.SlotRows.{Adds, IsMild, row-adds}
 
@@ -211,19 +210,6 @@ cached-answered setting depth position operation result piece row so_far =
     answered-more position.magazines position.base.answered operation result (deed_of operation result) refl
     ∙ piece-count setting.caller position.base.done piece position.base.answered _ so_far
     (count-by setting depth position (register_of operation) (deed_of operation result) piece (row-adds setting depth position operation result piece row))
-
-none-for : (done : Deed) → served_with empty_magazines done ≡ None
-none-for (deed.gives need v words place) = none-served (need_of need)
-none-for (deed.replaces need words place) = none-served (need_of need)
-none-for done = refl
-
-pub answered-row :
-    (setting : Setting) (position : Position) (operation : Op) (result : Outcome) (piece : List Event) → FitsRow setting position operation result piece
-    → position.answered ≡ answered_in setting.caller position.done
-    → answered_after position.answered operation result ≡ answered_in setting.caller (position.done ++ piece)
-answered-row setting position operation result piece row so_far =
-    sym (ap (λ served. answered_by served position.answered operation result) (none-for (deed_of operation result)))
-    ∙ cached-answered setting 0 (plain position) operation result piece (row-room setting position operation result piece row) so_far
 
 -- an event of another caller's is no answer to this one
 others-answer : (caller : ℕ) (event : Event) → eqb (caller_of event) caller ≡ false → answers caller event ≡ 0
