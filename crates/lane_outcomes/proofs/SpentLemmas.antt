@@ -4,11 +4,9 @@ use Rattle.trace_text.specs.declared.trace.Op.{Op}
 use Rattle.lane_outcomes.specs.declared.outcome.Outcome.{Outcome}
 use Rattle.lane_outcomes.specs.declared.outcome.Outcome.TheVariants as outcome
 use Rattle.lane_outcomes.specs.Cached.{CachedPosition, CachedWalks, cached_after}
-use Rattle.lane_outcomes.specs.Fits.{Walks}
-use Rattle.lane_outcomes.specs.Lane.{Position, spent_after}
+use Rattle.lane_outcomes.specs.Lane.{spent_after}
 use Rattle.lane_outcomes.specs.Rows.{Setting}
 use Rattle.lane_outcomes.proofs.LanesLemmas.{walk-kept}
-use Rattle.lane_outcomes.proofs.RoomLemmas.{plain, walks-room}
 
 spent-on : (spent : Bool) (result : Outcome) → spent ≡ true → spent_after spent result ≡ true
 spent-on spent outcome.Spent is = refl
@@ -25,10 +23,3 @@ told-through setting depth from to (operation ∷ operations) (result ∷ result
     (cached_after depth from operation result piece) to operations results walks (subst (λ r. spent_after from.base.spent r ≡ true) (sym is) refl)
 told-through setting depth from to (operation ∷ operations) (result ∷ results) (suc k) (piece, row, walks) lt is =
     told-through setting depth (cached_after depth from operation result piece) to operations results k walks (omega (arith, lt)) is
-
--- without a cache too
-pub told-spent :
-    (setting : Setting) (from to : Position) (operations : List Op) (results : List Outcome) (k : ℕ) → Walks setting from operations results to
-    → k < length results → get_or results k outcome.Spent ≡ outcome.Spent → to.spent ≡ true
-told-spent setting from to operations results k walks =
-    told-through setting 0 (plain from) (plain to) operations results k (walks-room setting from to operations results walks)

@@ -6,6 +6,7 @@ pub mod Common
 pub mod EachCall
 pub mod EndedLemmas
 pub mod FitLemmas
+pub mod FurtherLemmas
 pub mod HoldsLemmas
 pub mod LaneNext
 pub mod MadeLemmas

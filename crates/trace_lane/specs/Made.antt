@@ -149,6 +149,11 @@ abbrev pub IsLater : Request HeldBlock → Next HeldBlock → Type 0
 IsLater asked (next.Ask more) = rank asked < rank more
 IsLater asked (next.Told result) = Unit {0}
 
+-- an operation goes on so from there: it asks for what comes later, or has its outcome, which stays
+abbrev pub ComesBehind : Next HeldBlock → Next HeldBlock → Type 0
+ComesBehind (next.Ask asked) then = IsLater asked then
+ComesBehind (next.Told result) then = then ≡ next.Told result
+
 module _ {B : Type 0} (place_of : B → ℕ) (block_need : B → Need) (operation : Op) where
   -- an operation begins so
   abbrev pub Begins : List (Option B) → Next B → List (Option B) → Type 0
@@ -197,6 +202,27 @@ module _ {B S : Type 0} (place_of : B → ℕ) (need_of : B → Need) where
     pub stands : maker.stands at
     pub holds : HoldsBlocks place_of need_of (maker.owns at) lane.registers.items
     pub room : length lane.outcomes.items < vec_capacity lane.outcomes
+
+  -- an operation that a lane began on these blocks has come so far by these whole calls
+  pub record MayGoFurther (maker : Maker S) (operation : Op) (next : Next B) (at : S) (lane : LaneState B) : Type 0 where
+    pub start : S
+    pub blocks : List (Option B)
+    pub made : List Made
+    pub holds : HoldsBlocks place_of need_of (maker.owns start) blocks
+    pub leads : LeadsBy maker.called start made at
+    pub is_next :
+        IsNext (held_blocks place_of need_of blocks) operation (next_held place_of need_of next) made (held_blocks place_of need_of lane.registers.items)
+
+  -- and goes on from there by more of them, at least to what it asks for behind
+  pub record GoesFurther (called : S → Call → Reply → S → Type 0) (operation : Op) (asked : Next B) (before after : S) (old new : LaneState B) (next : Next B) : Type 0 where
+    pub more : List Made
+    pub leads : LeadsBy called before more after
+    pub is_next :
+        (registers : List (Option HeldBlock)) (made : List Made)
+        → IsNext registers operation (next_held place_of need_of asked) made (held_blocks place_of need_of old.registers.items)
+        → IsNext registers operation (next_held place_of need_of next) (made ++ more) (held_blocks place_of need_of new.registers.items)
+    pub behind : ComesBehind (next_held place_of need_of asked) (next_held place_of need_of next)
+    pub kept : new ≡ record old { registers = new.registers }
 
   -- a lane made this operation, and has its outcome
   pub record Makes (maker : Maker S) (operation : Op) (before after : S) (old new : LaneState B) : Type 0 where

@@ -11,6 +11,7 @@ use std::sync::Wait;
 use step_machine::token::Token;
 
 /// Serves a request. A take that missed the shelf's block is tried again.
+#[inline(always)]
 pub(crate) fn serve<B: Token + Drop, R: Wait, C: Calls<Held = B>>(
     rt: &R,
     calls: &mut C,

@@ -13,6 +13,7 @@ use step_machine::token::Token;
 use trace_text::trace::Op;
 
 /// Begins the operation: its first request, or its outcome where it has none.
+#[inline(always)]
 pub(super) fn begin<B: Token + Drop>(registers: &mut Vec<Option<B>>, operation: Op) -> Next<B>
     requires operation { IsOp operation }
     requires size { length registers.old.items ≡ REGISTERS }
@@ -20,10 +21,13 @@ pub(super) fn begin<B: Token + Drop>(registers: &mut Vec<Option<B>>, operation: 
     ensures begun { Begins B.place_of B.need_of operation registers.old.items result registers.new.items }
 {
     match operation {
-        Op::Alloc { r, need, .. } => match is_full(registers, r) {
-            true => Next::Told(Outcome::Skipped),
-            false => Next::Ask(Request::Allocate { need }),
-        },
+        Op::Alloc { r, need, .. } => {
+            if is_full(registers, r) {
+                Next::Told(Outcome::Skipped)
+            } else {
+                Next::Ask(Request::Allocate { need })
+            }
+        }
         Op::Free { r } => match take_out(registers, r) {
             Some(block) => Next::Ask(Request::Free(block)),
             None => Next::Told(Outcome::Skipped),
@@ -40,10 +44,13 @@ pub(super) fn begin<B: Token + Drop>(registers: &mut Vec<Option<B>>, operation: 
             Some(block) => Next::Ask(Request::Put { block, shelf }),
             None => Next::Told(Outcome::Skipped),
         },
-        Op::Take { r, shelf } => match is_full(registers, r) {
-            true => Next::Told(Outcome::Skipped),
-            false => Next::Ask(Request::Take { shelf }),
-        },
+        Op::Take { r, shelf } => {
+            if is_full(registers, r) {
+                Next::Told(Outcome::Skipped)
+            } else {
+                Next::Ask(Request::Take { shelf })
+            }
+        }
         Op::Resize { r, need } => match unasked(registers, r, need) {
             Some(outcome) => Next::Told(outcome),
             None => Next::Ask(Request::Allocate { need }),
@@ -52,6 +59,7 @@ pub(super) fn begin<B: Token + Drop>(registers: &mut Vec<Option<B>>, operation: 
 }
 
 /// Goes on by what a request came to: the operation's next request, or its outcome.
+#[inline(always)]
 pub(super) fn go_on<B: Token + Drop>(
     registers: &mut Vec<Option<B>>,
     operation: Op,
@@ -97,6 +105,7 @@ pub(super) fn go_on<B: Token + Drop>(
 }
 
 /// The block that an allocation is given is filled, and goes into the register.
+#[inline(always)]
 fn go_on_alloc<B: Token + Drop>(
     registers: &mut Vec<Option<B>>,
     r: u16,
@@ -123,6 +132,7 @@ fn go_on_alloc<B: Token + Drop>(
 
 /// The words of a resize's old block are copied into the one that is given, which goes into the register, and then
 /// the old one is freed.
+#[inline(always)]
 fn go_on_resize<B: Token + Drop>(
     registers: &mut Vec<Option<B>>,
     r: u16,
