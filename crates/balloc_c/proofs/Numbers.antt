@@ -25,7 +25,7 @@ both_none : (b : Bool) → (if b then none else none) ≡ none
 both_none true = refl
 both_none false = refl
 
-named-yes : (t : Table) (n : ℕ) → number_at t (n % 2 ^ 32) ≡ n → named t n ≡ seen (block_at t.slots.items (n % 2 ^ 32))
+pub named-yes : (t : Table) (n : ℕ) → number_at t (n % 2 ^ 32) ≡ n → named t n ≡ seen (block_at t.slots.items (n % 2 ^ 32))
 named-yes t n same = ap (λ (b : Bool). if b then seen (block_at t.slots.items (n % 2 ^ 32)) else None) (eq-eqb (number_at t (n % 2 ^ 32)) n same)
 
 named-no : (t : Table) (n : ℕ) → number_at t (n % 2 ^ 32) ≢ n → named t n ≡ None

@@ -1,14 +1,16 @@
 -- What a pass keeps to give it again: blocks that are home, and memory that is out as it is.
 use Rattle.std.specs.Prelude.{ℕ, ◌≡◌, ◌≢◌, ◌<◌, ◌+◌, ◌%◌, ◌^◌, Option, Some, List, length, slice_index}
+use Rattle.heap_geometry.specs.declared.limits.TheConstants.{CLASSES}
 use Rattle.heap_geometry.specs.declared.need.Need.{Need}
 use Rattle.heap_geometry.specs.declared.need.Need.TheVariants.{Small}
+use Rattle.live_heap.specs.declared.block.Block.{Block}
 use Rattle.balloc_c.specs.declared.kept.Kept.{Kept}
 use Rattle.balloc_c.specs.declared.kept.Kept.TheVariants as kept
 use Rattle.balloc_c.specs.declared.laid.Laid.{Laid}
 use Rattle.balloc_c.specs.declared.table.Slot.{Slot}
 use Rattle.balloc_c.specs.declared.table.Table.{Table}
 use Rattle.balloc_c.specs.Kept.{block_of}
-use Rattle.balloc_c.specs.Numbers.{NamesOneMore, number_at}
+use Rattle.balloc_c.specs.Numbers.{NamesOneMore, named, number_at}
 use Rattle.balloc_c.specs.Slots.{after_at, block_at, next_at}
 
 -- the number under which a block of a class is given first of these, and for how many more of it there is room
@@ -48,6 +50,17 @@ pub record HasRoomFor (t : Table) (slot : Option Kept) : Type 0 where
   pub class : ℕ
   pub small : (block_of it).need ≡ Small class
   pub some : 0 < room_of (like t it) class
+
+-- a free of the block of this number keeps it in its slot: its words are home, and there is room for one more of its class
+pub record IsKeptAt (t : Table) (number index class : ℕ) : Type 0 where
+  pub within : index < length t.slots.items
+  pub is : index ≡ number % 2 ^ 32
+  pub block : Block
+  pub here : block_at t.slots.items index ≡ Some (kept.Home block)
+  pub names : named t number ≡ Some (kept.Home block)
+  pub small : block.need ≡ Small class
+  pub bound : class < CLASSES
+  pub some : 0 < room_of t.resting class
 
 -- what was kept is given again, as this, under the number that was first, which named none: there is room for one more of its class, and the number that its slot has is the next
 pub record IsGivenAgain (t : Table) (class number : ℕ) (it : Kept) (u : Table) : Type 0 where

@@ -1,6 +1,6 @@
 //! How the memory of a block goes out to C, and comes home.
 
-ghost use Rattle.std.specs.Prelude.{ℕ, ◌≡◌, ◌≢◌, ◌<◌, ◌≤◌, ◌+◌, ◌%◌, ◌^◌, IfSome, None, Result, Some, false, length};
+ghost use Rattle.std.specs.Prelude.{ℕ, ◌≡◌, ◌≢◌, ◌<◌, ◌≤◌, ◌+◌, ◌%◌, ◌^◌, IfSome, None, Ok, Result, Some, false, length};
 ghost use Rattle.heap_geometry.specs.Need.{need_of};
 ghost use Rattle.heap_geometry.specs.declared.limits.TheConstants.{CLASSES, LARGE_MOST, SMALL_MOST};
 ghost use Rattle.heap_geometry.specs.declared.need.Need.TheVariants.{Small};
@@ -19,8 +19,8 @@ ghost use Rattle.balloc_c.specs.declared.refusal.Refusal.TheVariants as refusal;
 ghost use Rattle.balloc_c.specs.Codes.{code_of, value_in, word_in, word_of};
 ghost use Rattle.balloc_c.specs.declared.lent.LentBlock.{LentBlock as Out};
 ghost use Rattle.balloc_c.specs.Kept.{block_of};
-ghost use Rattle.balloc_c.specs.Laid.{IsReady, IsReadyIn, slot_of};
-ghost use Rattle.balloc_c.specs.Lending.{AllocatesNew, AreNumbers, BringsHome, FreesBack, FreesHome, GivesAgain, HasComeHome, HasGoneOut, HasToldMemory, IsBackFor, IsRoomFor, StayOut, memory_at, words_for};
+ghost use Rattle.balloc_c.specs.Laid.{IsKeptAt, IsReady, IsReadyIn, slot_of};
+ghost use Rattle.balloc_c.specs.Lending.{AllocatesNew, AreNumbers, BringsHome, FreesBack, FreesHome, GivesAgain, HasComeHome, HasGoneOut, HasToldMemory, IsBackFor, IsRoomFor, KeepsBack, StayOut, memory_at, words_for};
 ghost use Rattle.balloc_c.specs.Numbers.{named};
 ghost use Rattle.balloc_c.specs.Packed.{HasOneMoreAtMost, IsPacked};
 ghost use Rattle.balloc_c.specs.Slots.{block_at, blocks_of};
@@ -165,9 +165,45 @@ pub fn free_back(
     free_whole(heap, cache, table, index, number)
 }
 
+/// The slot and the class of the block of this number, where a free keeps it: no call is under way, its words are home, and the
+/// pass has room for it.
+#[inline(always)]
+pub fn next_kept(cache: &Cache, table: &Table, number: u64) -> Option<(usize, u8)>
+    ensures { IfSome result (λ next. IsIdle cache.now.pass.errand × IsKeptAt table.now number next.0 next.1) }
+{
+    if !cache.idle() {
+        return None;
+    }
+    table.at_home(number)
+}
+
+/// The free of a block that the pass keeps, whose words are home: it rests in its slot.
+#[inline(always)]
+pub fn free_here(
+    _heap: &Heap,
+    _cache: &Cache,
+    table: &mut Table,
+    index: usize,
+    class: u8,
+    number: u64,
+) -> Handed
+    requires tends { Tends _heap.now _cache.now table.old.slots.items }
+    requires packed { IsPacked table.old }
+    requires idle { IsIdle _cache.now.pass.errand }
+    requires at { IsKeptAt table.old number index class }
+    ensures tends { Tends _heap.now _cache.now table.new.slots.items }
+    ensures packed { IsPacked table.new }
+    ensures count { length table.new.slots.items ≡ length table.old.slots.items }
+    ensures code { result.code ≡ 0 }
+    ensures words { result.words ≡ None }
+    ensures kept { KeepsBack _cache.now table.old number None (Ok tt) None _cache.now table.new }
+{
+    table.rest(index, class, number);
+    Handed::none(MADE)
+}
+
 /// The free of the block in a slot, whose number this is and whose words are home: it rests there, where the pass has room
 /// for it.
-#[inline(always)]
 fn free_whole(
     heap: &Heap,
     cache: &mut Cache,
@@ -190,16 +226,12 @@ fn free_whole(
         × FreesBack heap.now cache.old table.old number None outcome result.words cache.new table.new }
 {
     match table.rest_room(index) {
-        Some(class) => {
-            table.rest(index, class, number);
-            Handed::none(word(Ok(())))
-        }
+        Some(class) => free_here(heap, cache, table, index, class, number),
         None => Handed::none(word(free_home(heap, cache, table, index, number))),
     }
 }
 
 /// The free of the block in a slot, whose number this is and whose words are out.
-#[inline(always)]
 fn free_lent(
     heap: &Heap,
     cache: &mut Cache,
@@ -232,8 +264,8 @@ fn free_lent(
     }
 }
 
-/// The free of the block in a slot, whose number this is and whose words are out. It stands apart, so that a free of words
-/// that are home saves no registers for it.
+/// The free of the block in a slot, whose number this is and whose words are out: they come home as zeros. It stands apart, so
+/// that a free of words that stay with the pass saves no registers for it.
 #[inline(never)]
 fn free_out(
     heap: &Heap,

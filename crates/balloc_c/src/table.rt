@@ -139,7 +139,7 @@ pub struct Table {
 
 impl Table {
     ghost use Rattle.balloc_c.specs.Kept.{block_of, is_laid, is_out, memory_of, seen};
-    ghost use Rattle.balloc_c.specs.Laid.{HasRoomFor, HasTurned, IsGivenAgain, IsReady, IsReadyIn, first_of, room_of, slot_of};
+    ghost use Rattle.balloc_c.specs.Laid.{HasRoomFor, HasTurned, IsGivenAgain, IsKeptAt, IsReady, IsReadyIn, first_of, room_of, slot_of};
     ghost use Rattle.balloc_c.specs.Numbers.{NamesOneLess, NamesOneMore, HasSpare, HasSlotReady, KeepsNumbers, named, number_at};
     ghost use Rattle.balloc_c.specs.Slots.{IsVacant, HasAged, after_at, block_at, blocks_of, next_at, set_block};
     ghost use Rattle.balloc_c.specs.Packed.{HasOneMoreAtMost, IsLinked, IsPacked};
@@ -409,6 +409,36 @@ impl Table {
         slot.age = slot.age.wrapping_add(1);
         slot.next = next;
         self.spare = index as u32;
+    }
+
+    /// The slot and the class of the block of this number, where its words are home and the pass has room for it.
+    #[inline(always)]
+    pub fn at_home(&self, number: u64) -> Option<(usize, u8)>
+        ensures { IfSome result (λ next. IsKeptAt self.now number next.0 next.1) }
+    {
+        let index = (number % 0x1_0000_0000) as usize;
+        if !self.is_aged(index, number) {
+            return None;
+        }
+        if !self.is_home(index) {
+            return None;
+        }
+        let Some(class) = self.rest_room(index) else {
+            return None;
+        };
+        Some((index, class))
+    }
+
+    /// Whether the words of the block in a slot are home, and a number can name it.
+    #[inline(always)]
+    fn is_home(&self, index: usize) -> bool
+        requires { index < length self.now.slots.items }
+        ensures { result ≡ true → (block : Block) × (block_at self.now.slots.items index ≡ Some (kept.Home block)) }
+    {
+        let Some(kept) = self.block(index) else {
+            return false;
+        };
+        matches!(kept, Kept::Home(_))
     }
 
     /// The class of the block in a slot, whose words are home, where the pass has room for it.
