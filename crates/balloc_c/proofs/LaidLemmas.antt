@@ -12,15 +12,15 @@ use Rattle.block_cache.specs.Caches.{cached_in}
 use Rattle.balloc_c.specs.declared.kept.Kept.{Kept}
 use Rattle.balloc_c.specs.declared.table.Slot.{Slot}
 use Rattle.balloc_c.specs.declared.table.Table.{Table}
-use Rattle.balloc_c.specs.Kept.{block_of, seen}
+use Rattle.balloc_c.specs.Kept.{block_of, content_of, seen}
 use Rattle.balloc_c.specs.Laid.{HasTurned}
 use Rattle.balloc_c.specs.Numbers.{NamesOneLess, NamesOneMore, named, number_at}
 use Rattle.balloc_c.specs.Packed.{AreSpare, IsPacked}
-use Rattle.balloc_c.specs.Slots.{after_at, age_at, block_at, blocks_of, lots_of, next_at, no_slot, set_block, with_block}
+use Rattle.balloc_c.specs.Slots.{after_at, age_at, block_at, block_in, blocks_of, lots_of, next_at, no_slot, set_block, with_block}
 use Rattle.balloc_c.specs.Tended.{HasAll, IsRoomAt, Stands, Tends}
 use Rattle.balloc_c.proofs.Numbers.{gains, loses}
 use Rattle.balloc_c.proofs.Packing.{apart-from, keep-spare, next-set_other}
-use Rattle.balloc_c.proofs.Slots.{age-set_other, age-set_same, block-set_other, block-set_same, by_case}
+use Rattle.balloc_c.proofs.Slots.{age-set_other, age-set_same, block-set_other, block-set_same, by_case, kept-back}
 
 -- the token in a slot, before others
 abbrev token : Option Kept → Option Block
@@ -42,8 +42,8 @@ lots-same [] (y ∷ ys) count each = absurd (omega (arith, count))
 lots-same (x ∷ xs) [] count each = absurd (omega (arith, count))
 lots-same (x ∷ xs) (y ∷ ys) count each =
     let rest : lots_of xs ≡ lots_of ys = lots-same xs ys (omega (arith, count)) (λ k. each (suc k)) in
-    with-token x.block (blocks_of xs) ∙ ap (λ (b : Option Block). with_lot b (lots_of xs)) (each 0) ∙ ap (with_lot (token y.block)) rest
-    ∙ sym (with-token y.block (blocks_of ys))
+    with-token (block_in x) (blocks_of xs) ∙ ap (λ (b : Option Block). with_lot b (lots_of xs)) (each 0) ∙ ap (with_lot (token (block_in y))) rest
+    ∙ sym (with-token (block_in y) (blocks_of ys))
 
 -- a slot that has the same block in another way leaves the lots
 pub turned-lots :
@@ -101,18 +101,18 @@ turned-tends h c slots after i was now tends is turned of stands =
 -- a slot is emptied and filled again
 still : (slots middle : List Slot) (i : ℕ) → i < length slots → middle ≡ set_block slots i None → i < length middle
 still slots middle i within out =
-    let none : Slot = record (slice_index_or slots i no_slot) { block = None } in
+    let none : Slot = record (slice_index_or slots i no_slot) { content = content_of None } in
     subst (λ (n : ℕ). i < n) (sym (ap length out ∙ length-set slots i none)) within
 
 pub turned-set :
     (slots middle after : List Slot) (i : ℕ) (now : Kept) → i < length slots → middle ≡ set_block slots i None → after ≡ set_block middle i (Some now)
     → HasTurned slots i now after
 turned-set slots middle after i now within out back =
-    let none : Slot = record (slice_index_or slots i no_slot) { block = None } in
-    let full : Slot = record (slice_index_or middle i no_slot) { block = Some now } in
+    let none : Slot = record (slice_index_or slots i no_slot) { content = content_of None } in
+    let full : Slot = record (slice_index_or middle i no_slot) { content = content_of (Some now) } in
     record {
       count = ap length back ∙ length-set middle i full ∙ ap length out ∙ length-set slots i none;
-      here = ap (λ (l : List Slot). block_at l i) back ∙ block-set_same middle i full (still slots middle i within out);
+      here = ap (λ (l : List Slot). block_at l i) back ∙ block-set_same middle i full (still slots middle i within out) ∙ kept-back (Some now);
       others = λ j other.
           ap (λ (l : List Slot). block_at l j) back ∙ block-set_other middle i j full other ∙ ap (λ (l : List Slot). block_at l j) out
           ∙ block-set_other slots i j none other;
@@ -123,7 +123,7 @@ turned-set slots middle after i now within out back =
 
 -- a slot is written anew
 pub turned-at :
-    (slots : List Slot) (i : ℕ) (slot : Slot) (now : Kept) → i < length slots → slot.block ≡ Some now → HasTurned slots i now (slice_set slots i slot)
+    (slots : List Slot) (i : ℕ) (slot : Slot) (now : Kept) → i < length slots → block_in slot ≡ Some now → HasTurned slots i now (slice_set slots i slot)
 turned-at slots i slot now within is =
     record {
       count = length-set slots i slot;
@@ -133,8 +133,8 @@ turned-at slots i slot now within is =
     }
 
 -- what was read of a slot was in it
-pub block-read : (slots : List Slot) (i : ℕ) (old : Slot) → i < length slots → old ≡ slice_index_or slots i old → block_at slots i ≡ old.block
-block-read slots i old within is = ap (λ (s : Slot). s.block) (sym (get_or_read slots i old within is no_slot))
+pub block-read : (slots : List Slot) (i : ℕ) (old : Slot) → i < length slots → old ≡ slice_index_or slots i old → block_at slots i ≡ block_in old
+block-read slots i old within is = ap block_in (sym (get_or_read slots i old within is no_slot))
 
 pub age-read : (slots : List Slot) (i : ℕ) (old : Slot) → i < length slots → old ≡ slice_index_or slots i old → age_at slots i ≡ old.age
 age-read slots i old within is = ap (λ (s : Slot). s.age) (sym (get_or_read slots i old within is no_slot))
@@ -164,8 +164,8 @@ pub turned-none :
     (slots after : List Slot) (i : ℕ) (now : Kept) → i < length slots → HasTurned slots i now after → (j : ℕ)
     → block_at (set_block after i None) j ≡ block_at (set_block slots i None) j
 turned-none slots after i now within turned j =
-    let one : Slot = record (slice_index_or after i no_slot) { block = None } in
-    let other : Slot = record (slice_index_or slots i no_slot) { block = None } in
+    let one : Slot = record (slice_index_or after i no_slot) { content = content_of None } in
+    let other : Slot = record (slice_index_or slots i no_slot) { content = content_of None } in
     let here : i < length after = subst (λ (n : ℕ). i < n) (sym turned.count) within in
     by_case
     (λ same.
@@ -183,7 +183,7 @@ room-on h p q n m v w place need words room =
 -- what the pass keeps from now on has no number
 pub lays-less :
     (t u : Table) (i n : ℕ) (slot : Slot) (now : Kept) → i ≡ n % 2 ^ 32 → named t n ≢ None → i < length t.slots.items
-    → u.slots.items ≡ slice_set t.slots.items i slot → slot.block ≡ Some now → seen (Some now) ≡ None → slot.age ≡ (age_at t.slots.items i + 1) % 2 ^ 32 → NamesOneLess t n u
+    → u.slots.items ≡ slice_set t.slots.items i slot → block_in slot ≡ Some now → seen (Some now) ≡ None → slot.age ≡ (age_at t.slots.items i + 1) % 2 ^ 32 → NamesOneLess t n u
 lays-less t u i n slot now at names within set is unseen older =
     let slots = t.slots.items in
     loses t u n names

@@ -7,7 +7,7 @@ use Rattle.live_heap.specs.declared.answers.FreeAnswer.TheVariants as free_answe
 use Rattle.live_heap.specs.declared.block.Block.{Block}
 use Rattle.balloc_c.specs.declared.kept.Kept.{Kept}
 use Rattle.balloc_c.specs.declared.kept.Kept.TheVariants as kept
-use Rattle.balloc_c.specs.Kept.{block_of, is_laid, is_out}
+use Rattle.balloc_c.specs.Kept.{block_of, content_of, is_laid, is_out}
 use Rattle.balloc_c.specs.Tended.{Stands}
 use Rattle.live_heap.specs.Heaps.{HeapFields}
 use Rattle.live_heap.specs.Passes.{IsHome}
@@ -26,7 +26,7 @@ use Rattle.balloc_c.specs.Closed.{FreesAll, FreesKept, FreesSlot, FreesTable, St
 use Rattle.balloc_c.specs.Outcomes.{barred}
 use Rattle.balloc_c.proofs.BarLemmas.{barred-by, in-none, not-barred}
 use Rattle.balloc_c.specs.Through.{IsFree}
-use Rattle.balloc_c.specs.Slots.{block_at, blocks_of, list_of, no_slot, set_block, with_block}
+use Rattle.balloc_c.specs.Slots.{block_at, block_in, blocks_of, list_of, no_slot, set_block, with_block}
 use Rattle.balloc_c.proofs.Slots.{about, block-set_other, block-set_same, blocks-append, by_case}
 
 frees-more :
@@ -50,7 +50,7 @@ frees-next p q r slots i within freed one =
     let slot = slice_index_or slots i no_slot in
     subst (λ (l : List Kept). FreesAll p l r)
     (sym (ap blocks_of (take_more slots i no_slot within) ∙ blocks-append (take i slots) (slot ∷ [])))
-    (frees-slot p q r (blocks_of (take i slots)) slot.block freed one)
+    (frees-slot p q r (blocks_of (take i slots)) (block_in slot) freed one)
 
 -- a block that is home is freed as it is, and all its words are home
 pub frees-home :
@@ -74,7 +74,7 @@ same-blocks [] (y ∷ ys) count each = absurd (omega (arith, count))
 same-blocks (x ∷ xs) [] count each = absurd (omega (arith, count))
 same-blocks (x ∷ xs) (y ∷ ys) count each =
     ap (λ (b : Option Kept). with_block b (blocks_of xs)) (each 0)
-    ∙ ap (with_block y.block) (same-blocks xs ys (omega (arith, count)) (λ k. each (suc k)))
+    ∙ ap (with_block (block_in y)) (same-blocks xs ys (omega (arith, count)) (λ k. each (suc k)))
 
 -- the first slots have been emptied, and the others are as they were
 pub left-behind :
@@ -94,7 +94,7 @@ pub empty-next :
     (before slots after : List Slot) (i : ℕ) → i < length slots → ((k : ℕ) → block_at after k ≡ block_at (set_block slots i None) k)
     → ((k : ℕ) → k < i → block_at slots k ≡ None) → (k : ℕ) → k < i + 1 → block_at after k ≡ None
 empty-next before slots after i within now empty k low =
-    let slot : Slot = record (slice_index_or slots i no_slot) { block = None } in
+    let slot : Slot = record (slice_index_or slots i no_slot) { content = content_of None } in
     by_case
     (λ at. now k ∙ subst (λ (n : ℕ). block_at (set_block slots i None) n ≡ None) (sym at.1) (block-set_same slots i slot within))
     (λ apart. now k ∙ block-set_other slots i k slot apart.1 ∙ empty k (omega (arith, low, apart.1))) (eqb_tells k i)
@@ -103,7 +103,7 @@ pub rest-next :
     (before slots after : List Slot) (i : ℕ) → ((k : ℕ) → block_at after k ≡ block_at (set_block slots i None) k)
     → ((k : ℕ) → i ≤ k → block_at slots k ≡ block_at before k) → (k : ℕ) → i + 1 ≤ k → block_at after k ≡ block_at before k
 rest-next before slots after i now rest k high =
-    let slot : Slot = record (slice_index_or slots i no_slot) { block = None } in
+    let slot : Slot = record (slice_index_or slots i no_slot) { content = content_of None } in
     let apart : k ≢ i = λ at. omega (arith, high, at) in
     now k ∙ block-set_other slots i k slot apart ∙ rest k (omega (arith, high))
 
@@ -185,8 +185,8 @@ out-or false rest none = (refl, none)
 
 pub home-at : (slots : List Slot) (i : ℕ) → has_out slots ≡ false → is_out (block_at slots i) ≡ false
 home-at [] i none = refl
-home-at (slot ∷ slots) zero none = (out-or (is_out slot.block) (has_out slots) none).0
-home-at (slot ∷ slots) (suc i) none = home-at slots i (out-or (is_out slot.block) (has_out slots) none).1
+home-at (slot ∷ slots) zero none = (out-or (is_out (block_in slot)) (has_out slots) none).0
+home-at (slot ∷ slots) (suc i) none = home-at slots i (out-or (is_out (block_in slot)) (has_out slots) none).1
 
 pub none-out : (slots : List Slot) → ((i : ℕ) → i < length slots → is_out (block_at slots i) ≡ false) → has_out slots ≡ false
 none-out [] each = refl

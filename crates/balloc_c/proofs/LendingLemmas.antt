@@ -25,7 +25,7 @@ use Rattle.balloc_c.specs.declared.kept.Kept.{Kept}
 use Rattle.balloc_c.specs.declared.kept.Kept.TheVariants as kept
 use Rattle.balloc_c.specs.declared.lent.LentBlock.{LentBlock}
 use Rattle.balloc_c.specs.declared.table.Slot.{Slot}
-use Rattle.balloc_c.specs.Kept.{block_of, is_laid, is_out, seen}
+use Rattle.balloc_c.specs.Kept.{block_of, content_of, is_laid, is_out, seen}
 use Rattle.balloc_c.specs.Slots.{block_at, lots_of, no_slot, set_block}
 use Rattle.balloc_c.specs.Tended.{HasAll, Stands, Tends, at_home}
 use Rattle.balloc_c.proofs.AllBlocks.{home-of, rests}
@@ -68,10 +68,10 @@ pub out-tends :
     → before_taking d.pass block.place ≡ c.pass → IsLastTaken d.pass m ns (view c.pass).lent → Lies h.region.at (lent.place + 1)
     → m.words.first ≡ lent.place + 1 → m.words.first % 2 ≡ 1 → Tends h d after
 out-tends h c d slots middle after i block lent m ns tends idle rests_d within is out_is back_is token of is_cache keeps before last lies first odd =
-    let none : Slot = record (slice_index_or slots i no_slot) { block = None } in
+    let none : Slot = record (slice_index_or slots i no_slot) { content = content_of None } in
     let bare = set_block slots i None in
     let vacant = vacant-set slots i within in
-    let full : Slot = record (slice_index_or bare i no_slot) { block = Some (kept.Out lent) } in
+    let full : Slot = record (slice_index_or bare i no_slot) { content = content_of (Some (kept.Out lent)) } in
     let whole : after ≡ set_block bare i (Some (kept.Out lent)) = back_is ∙ ap (λ (l : List Slot). set_block l i (Some (kept.Out lent))) out_is in
     let front = taken-out h c.pass slots i (kept.Home block) (cached_in c) within is tends.all in
     let same : at_home c.pass ≡ at_home d.pass = ap at_home (sym before) in
@@ -110,10 +110,10 @@ pub home-tends :
     → ((other : Memory) → HasTaken c.pass other → other.block.place ≢ at → HasTaken d.pass other)
     → ((other : Block) → Owns c.pass other → Owns d.pass other) → Tends h d after
 home-tends h c d slots middle after i was at need block words ns tends idle within is place out_is back_is token is_cache keeps wrote owned others owns =
-    let none : Slot = record (slice_index_or slots i no_slot) { block = None } in
+    let none : Slot = record (slice_index_or slots i no_slot) { content = content_of None } in
     let bare = set_block slots i None in
     let vacant = vacant-set slots i within in
-    let full : Slot = record (slice_index_or bare i no_slot) { block = Some (kept.Home block) } in
+    let full : Slot = record (slice_index_or bare i no_slot) { content = content_of (Some (kept.Home block)) } in
     let whole : after ≡ set_block bare i (Some (kept.Home block)) = back_is ∙ ap (λ (l : List Slot). set_block l i (Some (kept.Home block))) out_is in
     let front = taken-out h c.pass slots i was (cached_in c) within is tends.all in
     let first : Pass = before_taking c.pass at in

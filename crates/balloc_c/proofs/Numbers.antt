@@ -9,14 +9,14 @@ use Rattle.std.proofs.Math.Nat.{add_assoc, mod-add-mod, mod-eq_of_lt, mod-lt}
 use Rattle.live_heap.specs.declared.block.Block.{Block}
 use Rattle.balloc_c.specs.declared.kept.Kept.{Kept}
 use Rattle.balloc_c.specs.declared.kept.Kept.TheVariants as kept
-use Rattle.balloc_c.specs.Kept.{seen}
+use Rattle.balloc_c.specs.Kept.{content_of, seen}
 use Rattle.balloc_c.specs.declared.table.Table.{Table}
 use Rattle.balloc_c.specs.Numbers.{NamesOneMore, GaveAway, KeepsNumbers, NamesOneLess, named, number_at}
 use Rattle.balloc_c.specs.declared.table.Slot.{Slot}
 use Rattle.balloc_c.specs.Lending.{Renames}
 use Rattle.balloc_c.specs.Packed.{HasOneMoreAtMost}
 use Rattle.balloc_c.specs.Slots.{HasAged, IsVacant, age_at, block_at, blocks_of, no_slot, set_block}
-use Rattle.balloc_c.proofs.Slots.{age-set, block-set_other, block-set_same, by_case}
+use Rattle.balloc_c.proofs.Slots.{age-set, block-set_other, block-set_same, by_case, kept-back}
 
 abbrev none : Option Kept
 none = None
@@ -156,7 +156,7 @@ pub gains-set :
     (t u : Table) (i : ℕ) (block : Block) → i < 2 ^ 32 → IsVacant t.slots.items i → u.slots.items ≡ set_block t.slots.items i (Some (kept.Home block))
     → NamesOneMore t (number_at u i) (kept.Home block) u
 gains-set t u i block small vacant set =
-    let slot : Slot = record (slice_index_or t.slots.items i no_slot) { block = Some (kept.Home block) } in
+    let slot : Slot = record (slice_index_or t.slots.items i no_slot) { content = content_of (Some (kept.Home block)) } in
     gains t u i (kept.Home block) small (ap seen vacant.1)
     (ap seen (ap (λ (l : List Slot). block_at l i) set ∙ block-set_same t.slots.items i slot vacant.0))
     (λ j other. ap (λ (l : List Slot). block_at l j) set ∙ block-set_other t.slots.items i j slot other)
@@ -168,7 +168,7 @@ pub loses-set :
     → HasAged l (n % 2 ^ 32) u.slots.items → NamesOneLess t n u
 loses-set t u l n names within set aged =
     let i = n % 2 ^ 32 in
-    let slot : Slot = record (slice_index_or t.slots.items i no_slot) { block = None } in
+    let slot : Slot = record (slice_index_or t.slots.items i no_slot) { content = content_of None } in
     let ages : (j : ℕ) → age_at l j ≡ age_at t.slots.items j =
     λ j. ap (λ (k : List Slot). age_at k j) set ∙ age-set t.slots.items i None j within in
     loses t u n names
@@ -182,12 +182,12 @@ pub keeps-set :
     (t u : Table) (l : List Slot) (i : ℕ) (block : Kept) → i < length t.slots.items → i < length l → block_at t.slots.items i ≡ Some block
     → l ≡ set_block t.slots.items i None → u.slots.items ≡ set_block l i (Some block) → KeepsNumbers t u
 keeps-set t u l i block within still was out back =
-    let none : Slot = record (slice_index_or t.slots.items i no_slot) { block = None } in
-    let some_block : Slot = record (slice_index_or l i no_slot) { block = Some block } in
+    let none : Slot = record (slice_index_or t.slots.items i no_slot) { content = content_of None } in
+    let some_block : Slot = record (slice_index_or l i no_slot) { content = content_of (Some block) } in
     keeps t u
     (λ j. by_case
     (λ same.
-    ap (block_at u.slots.items) same.1 ∙ ap (λ (k : List Slot). block_at k i) back ∙ block-set_same l i some_block still ∙ sym was
+    ap (block_at u.slots.items) same.1 ∙ ap (λ (k : List Slot). block_at k i) back ∙ block-set_same l i some_block still ∙ kept-back (Some block) ∙ sym was
     ∙ sym (ap (block_at t.slots.items) same.1))
     (λ other.
     ap (λ (k : List Slot). block_at k j) back ∙ block-set_other l i j some_block other.1 ∙ ap (λ (k : List Slot). block_at k j) out
@@ -220,6 +220,10 @@ seen-some (Some (kept.Home b)) block is = is
 seen-some (Some (kept.Out l)) block is = is
 seen-some (Some (kept.Resting b)) block is = absurd (some-not-none block (sym is))
 seen-some (Some (kept.Laid m)) block is = absurd (some-not-none block (sym is))
+
+pub some-of : (slot : Option Kept) → slot ≢ None → (block : Kept) × (slot ≡ Some block)
+some-of None there = absurd (there refl)
+some-of (Some block) there = (block, refl)
 
 -- a number that names a block names that in its slot
 pub slot-named :
@@ -270,8 +274,8 @@ renames-set :
 renames-set t u middle number was now within names out back shows =
     let i = number % 2 ^ 32 in
     let slots = t.slots.items in
-    let bare : Slot = record (slice_index_or slots i no_slot) { block = None } in
-    let full : Slot = record (slice_index_or middle i no_slot) { block = Some now } in
+    let bare : Slot = record (slice_index_or slots i no_slot) { content = content_of None } in
+    let full : Slot = record (slice_index_or middle i no_slot) { content = content_of (Some now) } in
     let still : i < length middle =
     subst (λ (l : List Slot). i < length l) (sym out) (subst (λ (n : ℕ). i < n) (sym (length-set slots i bare)) within) in
     let blocks : (j : ℕ) → j ≢ i → block_at u.slots.items j ≡ block_at slots j =
@@ -283,7 +287,7 @@ renames-set t u middle number was now within names out back shows =
     let there : number_at t i ≡ number = names-itself t number (λ nothing. some-not-none was (sym names ∙ nothing)) in
     let now_there : number_at u i ≡ number = ap (λ (a : ℕ). a * 2 ^ 32 + i % 2 ^ 32) (ages i) ∙ there in
     record {
-      here = named-yes u number now_there ∙ ap (λ (l : List Slot). seen (block_at l i)) back ∙ ap seen (block-set_same middle i full still) ∙ shows;
+      here = named-yes u number now_there ∙ ap (λ (l : List Slot). seen (block_at l i)) back ∙ ap seen (block-set_same middle i full still ∙ kept-back (Some now)) ∙ shows;
       others = λ m other. by_case
           (λ same.
           named-no u m (λ it. other (sym it ∙ ap (number_at u) same.1 ∙ now_there))

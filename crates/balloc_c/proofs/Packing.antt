@@ -7,8 +7,9 @@ use Rattle.balloc_c.specs.declared.table.Slot.{Slot}
 use Rattle.balloc_c.specs.declared.table.Table.{Table}
 use Rattle.balloc_c.specs.declared.table.TheConstants.{NONE}
 use Rattle.balloc_c.specs.Packed.{AreSpare, HasOneMoreAtMost, IsLinked, IsNoneOf, IsPacked}
-use Rattle.balloc_c.specs.Slots.{HasAged, IsVacant, block_at, blocks_of, next_at, no_slot, set_block, with_block}
-use Rattle.balloc_c.proofs.Slots.{about, about-set, block-set_other, block-set_same, grown, vacant-set}
+use Rattle.balloc_c.specs.Slots.{HasAged, IsVacant, block_at, block_in, blocks_of, next_at, no_slot, set_block, with_block}
+use Rattle.balloc_c.proofs.Slots.{about, about-set, block-set_other, block-set_same, grown, kept-back, vacant-set}
+use Rattle.balloc_c.specs.Kept.{content_of}
 
 is_some : Option Kept → ℕ
 is_some None = 0
@@ -51,29 +52,30 @@ with-count (Some block) blocks = omega arith
 about-count :
     (slots : List Slot) (i : ℕ) (slot : Slot) → i < length slots
     → length (blocks_of (slice_set slots i slot)) + length (with_block (block_at slots i) [])
-    ≡ length (blocks_of slots) + length (with_block slot.block [])
+    ≡ length (blocks_of slots) + length (with_block (block_in slot) [])
 about-count slots i slot within =
     let before = blocks_of (take i slots) in
     let after = blocks_of (drop (i + 1) slots) in
     let old : length (blocks_of slots) ≡ length before + length (with_block (block_at slots i) after) =
     ap length (about slots i within) ∙ length-append before (with_block (block_at slots i) after) in
-    let new : length (blocks_of (slice_set slots i slot)) ≡ length before + length (with_block slot.block after) =
-    ap length (about-set slots i slot within) ∙ length-append before (with_block slot.block after) in
-    omega (arith, old, new, with-count (block_at slots i) after, with-count slot.block after)
+    let new : length (blocks_of (slice_set slots i slot)) ≡ length before + length (with_block (block_in slot) after) =
+    ap length (about-set slots i slot within) ∙ length-append before (with_block (block_in slot) after) in
+    omega (arith, old, new, with-count (block_at slots i) after, with-count (block_in slot) after)
 
 pub one-more :
     (slots : List Slot) (i : ℕ) (block : Kept) → IsVacant slots i
     → length (blocks_of (set_block slots i (Some block))) ≡ length (blocks_of slots) + 1
 one-more slots i block vacant =
-    let slot : Slot = record (slice_index_or slots i no_slot) { block = Some block } in
+    let slot : Slot = record (slice_index_or slots i no_slot) { content = content_of (Some block) } in
     let none : length (with_block (block_at slots i) []) ≡ 0 = ap (λ (b : Option Kept). length (with_block b [])) vacant.1 in
-    omega (arith, about-count slots i slot vacant.0, none)
+    let one : length (with_block (block_in slot) []) ≡ 1 = ap (λ (b : Option Kept). length (with_block b [])) (kept-back (Some block)) in
+    omega (arith, about-count slots i slot vacant.0, none, one)
 
 one-less :
     (slots : List Slot) (i : ℕ) (block : Kept) → i < length slots → block_at slots i ≡ Some block
     → length (blocks_of (set_block slots i None)) + 1 ≡ length (blocks_of slots)
 one-less slots i block within is =
-    let slot : Slot = record (slice_index_or slots i no_slot) { block = None } in
+    let slot : Slot = record (slice_index_or slots i no_slot) { content = content_of None } in
     let one : length (with_block (block_at slots i) []) ≡ 1 = ap (λ (b : Option Kept). length (with_block b [])) is in
     omega (arith, about-count slots i slot within, one)
 
@@ -107,14 +109,14 @@ last-next : (slots : List Slot) (slot : Slot) → next_at (slots ++ slot ∷ [])
 last-next [] slot = refl
 last-next (x ∷ xs) slot = last-next xs slot
 
-last-block : (slots : List Slot) (slot : Slot) → block_at (slots ++ slot ∷ []) (length slots) ≡ slot.block
+last-block : (slots : List Slot) (slot : Slot) → block_at (slots ++ slot ∷ []) (length slots) ≡ block_in slot
 last-block [] slot = refl
 last-block (x ∷ xs) slot = last-block xs slot
 
 -- one slot more, where each has a block
 pub grown-packed :
     (t u : Table) (slot : Slot) → t.spare ≡ NONE → length t.slots.items ≤ length (blocks_of t.slots.items)
-    → length t.slots.items < 2 ^ 32 - 1 → slot.block ≡ None → slot.next ≡ t.spare → u.slots.items ≡ t.slots.items ++ slot ∷ []
+    → length t.slots.items < 2 ^ 32 - 1 → block_in slot ≡ None → slot.next ≡ t.spare → u.slots.items ≡ t.slots.items ++ slot ∷ []
     → u.spare ≡ length t.slots.items → IsPacked u
 grown-packed t u slot none full few bare next is spare =
     let slots = t.slots.items in
@@ -133,7 +135,7 @@ grown-packed t u slot none full few bare next is spare =
     }
 
 abbrev with_one : List Slot → ℕ → Kept → Slot
-with_one slots i block = record (slice_index_or slots i no_slot) { block = Some block }
+with_one slots i block = record (slice_index_or slots i no_slot) { content = content_of (Some block) }
 
 -- the spare slot is filled
 pub filled-packed :
@@ -173,7 +175,7 @@ pub gone-packed :
     → m.slots.items ≡ set_block t.slots.items i None → m.spare ≡ t.spare → HasAged m.slots.items i u.slots.items → IsLinked m i u → IsPacked u
 gone-packed t m u i block packed within is out spare aged linked =
     let slots = t.slots.items in
-    let none : Slot = record (slice_index_or slots i no_slot) { block = None } in
+    let none : Slot = record (slice_index_or slots i no_slot) { content = content_of None } in
     let count : length u.slots.items ≡ length slots = aged.count ∙ ap length out ∙ length-set slots i none in
     let fewer : length (blocks_of u.slots.items) + 1 ≡ length (blocks_of slots) =
     ap (λ (l : List Kept). length l + 1) (aged.blocks ∙ ap blocks_of out) ∙ one-less slots i block within is in
@@ -205,9 +207,9 @@ pub back-packed :
     → u.spare ≡ m.spare → IsPacked u
 back-packed t m u i block back packed within is out spare again stays =
     let slots = t.slots.items in
-    let none : Slot = record (slice_index_or slots i no_slot) { block = None } in
+    let none : Slot = record (slice_index_or slots i no_slot) { content = content_of None } in
     let bare = set_block slots i None in
-    let some_block : Slot = record (slice_index_or bare i no_slot) { block = Some back } in
+    let some_block : Slot = record (slice_index_or bare i no_slot) { content = content_of (Some back) } in
     let whole : u.slots.items ≡ set_block bare i (Some back) = again ∙ ap (λ (l : List Slot). set_block l i (Some back)) out in
     let count : length u.slots.items ≡ length slots = ap length whole ∙ length-set bare i some_block ∙ length-set slots i none in
     let blocks : length (blocks_of u.slots.items) ≡ length (blocks_of slots) =
@@ -232,7 +234,7 @@ back-packed t m u i block back packed within is out spare again stays =
 pub few-set :
     (t m u : Table) (i : ℕ) (block : Option Kept) → HasOneMoreAtMost t m → u.slots.items ≡ set_block m.slots.items i block → HasOneMoreAtMost t u
 few-set t m u i block few is more =
-    let slot : Slot = record (slice_index_or m.slots.items i no_slot) { block = block } in
+    let slot : Slot = record (slice_index_or m.slots.items i no_slot) { content = content_of block } in
     let count : length u.slots.items ≡ length m.slots.items = ap length is ∙ length-set m.slots.items i slot in
     let least = few (omega (arith, count, more)) in
     omega (arith, count, least)
@@ -243,7 +245,7 @@ few-same t u count more = absurd (omega (arith, count, more))
 pub few-gone :
     (t m u : Table) (i : ℕ) → m.slots.items ≡ set_block t.slots.items i None → HasAged m.slots.items i u.slots.items → HasOneMoreAtMost t u
 few-gone t m u i out aged =
-    let none : Slot = record (slice_index_or t.slots.items i no_slot) { block = None } in
+    let none : Slot = record (slice_index_or t.slots.items i no_slot) { content = content_of None } in
     few-same t u (aged.count ∙ ap length out ∙ length-set t.slots.items i none)
 
 -- the slot that gave its block away names the one that was spare
@@ -258,7 +260,7 @@ linked-set t u i slot within is next spare = record {
 
 pub few-out : (t m : Table) (i : ℕ) → m.slots.items ≡ set_block t.slots.items i None → HasOneMoreAtMost t m
 few-out t m i out =
-    let none : Slot = record (slice_index_or t.slots.items i no_slot) { block = None } in
+    let none : Slot = record (slice_index_or t.slots.items i no_slot) { content = content_of None } in
     few-same t m (ap length out ∙ length-set t.slots.items i none)
 
 -- where no slot stands ready the spare one is none

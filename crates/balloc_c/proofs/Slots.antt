@@ -4,8 +4,18 @@ use Rattle.std.specs.Prelude.{slice_set}
 use Rattle.std.proofs.lemmas.Bool.Decides.{eqb_tells}
 use Rattle.std.proofs.lemmas.List.{take-append-drop, drop_more, take-set, drop-set, get_or_read, get_or-set_same, get_or-set_other}
 use Rattle.balloc_c.specs.declared.kept.Kept.{Kept}
+use Rattle.balloc_c.specs.declared.kept.Kept.TheVariants as kept
 use Rattle.balloc_c.specs.declared.table.Slot.{Slot}
-use Rattle.balloc_c.specs.Slots.{HasAged, IsVacant, age_at, block_at, blocks_of, no_slot, set_block, with_block}
+use Rattle.balloc_c.specs.Slots.{HasAged, IsVacant, age_at, block_at, block_in, blocks_of, no_slot, set_block, with_block}
+use Rattle.balloc_c.specs.Kept.{content_of, kept_in}
+
+-- a block that is put into a slot lies there
+pub kept-back : (block : Option Kept) → kept_in (content_of block) ≡ block
+kept-back None = refl
+kept-back (Some (kept.Home block)) = refl
+kept-back (Some (kept.Out lent)) = refl
+kept-back (Some (kept.Resting block)) = refl
+kept-back (Some (kept.Laid memory)) = refl
 
 -- the blocks of two rows of slots
 with-append : (slot : Option Kept) (xs ys : List Kept) → with_block slot (xs ++ ys) ≡ with_block slot xs ++ ys
@@ -14,14 +24,14 @@ with-append (Some b) xs ys = refl
 
 pub blocks-append : (xs ys : List Slot) → blocks_of (xs ++ ys) ≡ blocks_of xs ++ blocks_of ys
 blocks-append [] ys = refl
-blocks-append (x ∷ xs) ys = ap (with_block x.block) (blocks-append xs ys) ∙ with-append x.block (blocks_of xs) (blocks_of ys)
+blocks-append (x ∷ xs) ys = ap (with_block (block_in x)) (blocks-append xs ys) ∙ with-append (block_in x) (blocks_of xs) (blocks_of ys)
 
 -- the blocks in slots, with one slot more that has none
-pub grown : (slots : List Slot) (slot : Slot) → slot.block ≡ None → blocks_of (slots ++ slot ∷ []) ≡ blocks_of slots
+pub grown : (slots : List Slot) (slot : Slot) → block_in slot ≡ None → blocks_of (slots ++ slot ∷ []) ≡ blocks_of slots
 grown slots slot none =
     blocks-append slots (slot ∷ []) ∙ ap (λ (b : Option Kept). blocks_of slots ++ with_block b []) none ∙ append-nil (blocks_of slots)
 
-pub grown-block : (slots : List Slot) (slot : Slot) (i : ℕ) → slot.block ≡ None → block_at (slots ++ slot ∷ []) i ≡ block_at slots i
+pub grown-block : (slots : List Slot) (slot : Slot) (i : ℕ) → block_in slot ≡ None → block_at (slots ++ slot ∷ []) i ≡ block_at slots i
 grown-block [] slot zero none = none
 grown-block [] slot (suc i) none = refl
 grown-block (x ∷ xs) slot zero none = refl
@@ -43,7 +53,7 @@ about slots i within =
 
 pub about-set :
     (slots : List Slot) (i : ℕ) (slot : Slot) → i < length slots
-    → blocks_of (slice_set slots i slot) ≡ blocks_of (take i slots) ++ with_block slot.block (blocks_of (drop (i + 1) slots))
+    → blocks_of (slice_set slots i slot) ≡ blocks_of (take i slots) ++ with_block (block_in slot) (blocks_of (drop (i + 1) slots))
 about-set slots i slot within =
     ap blocks_of (sym (take-append-drop i (slice_set slots i slot)) ∙ (λ j. take-set slots i slot j ++ drop-set slots i slot within j))
     ∙ blocks-append (take i slots) (slot ∷ drop (i + 1) slots)
@@ -56,7 +66,14 @@ whole-at slots i block within is =
     about slots i within ∙ ap (λ (s : Option Kept). blocks_of (take i slots) ++ with_block s (blocks_of (drop (i + 1) slots))) is
 
 -- the blocks in slots stay where one slot is replaced by one with the same block
-pub same-blocks : (slots : List Slot) (i : ℕ) (slot : Slot) → i < length slots → slot.block ≡ block_at slots i → blocks_of (slice_set slots i slot) ≡ blocks_of slots
+pub about-put :
+    (slots : List Slot) (i : ℕ) (block : Option Kept) → i < length slots
+    → blocks_of (set_block slots i block) ≡ blocks_of (take i slots) ++ with_block block (blocks_of (drop (i + 1) slots))
+about-put slots i block within =
+    about-set slots i (record (slice_index_or slots i no_slot) { content = content_of block }) within
+    ∙ ap (λ (b : Option Kept). blocks_of (take i slots) ++ with_block b (blocks_of (drop (i + 1) slots))) (kept-back block)
+
+pub same-blocks : (slots : List Slot) (i : ℕ) (slot : Slot) → i < length slots → block_in slot ≡ block_at slots i → blocks_of (slice_set slots i slot) ≡ blocks_of slots
 same-blocks slots i slot within same =
     about-set slots i slot within
     ∙ ap (λ (b : Option Kept). blocks_of (take i slots) ++ with_block b (blocks_of (drop (i + 1) slots))) same
@@ -67,11 +84,11 @@ by_case f g (inl a) = f a
 by_case f g (inr b) = g b
 
 -- what lies in the slots behind a change of one
-pub block-set_same : (slots : List Slot) (i : ℕ) (slot : Slot) → i < length slots → block_at (slice_set slots i slot) i ≡ slot.block
-block-set_same slots i slot within = ap (λ (s : Slot). s.block) (get_or-set_same slots i slot no_slot within)
+pub block-set_same : (slots : List Slot) (i : ℕ) (slot : Slot) → i < length slots → block_at (slice_set slots i slot) i ≡ block_in slot
+block-set_same slots i slot within = ap block_in (get_or-set_same slots i slot no_slot within)
 
 pub block-set_other : (slots : List Slot) (i j : ℕ) (slot : Slot) → j ≢ i → block_at (slice_set slots i slot) j ≡ block_at slots j
-block-set_other slots i j slot other = ap (λ (s : Slot). s.block) (get_or-set_other slots i j slot no_slot other)
+block-set_other slots i j slot other = ap block_in (get_or-set_other slots i j slot no_slot other)
 
 pub age-set_same : (slots : List Slot) (i : ℕ) (slot : Slot) → i < length slots → age_at (slice_set slots i slot) i ≡ slot.age
 age-set_same slots i slot within = ap (λ (s : Slot). s.age) (get_or-set_same slots i slot no_slot within)
@@ -82,23 +99,23 @@ age-set_other slots i j slot other = ap (λ (s : Slot). s.age) (get_or-set_other
 -- a block that is set leaves all ages
 pub age-set : (slots : List Slot) (i : ℕ) (block : Option Kept) (j : ℕ) → i < length slots → age_at (set_block slots i block) j ≡ age_at slots j
 age-set slots i block j within =
-    let slot : Slot = record (slice_index_or slots i no_slot) { block = block } in
+    let slot : Slot = record (slice_index_or slots i no_slot) { content = content_of block } in
     by_case (λ same. subst (λ (n : ℕ). age_at (slice_set slots i slot) n ≡ age_at slots n) (sym same.1) (age-set_same slots i slot within))
     (λ other. age-set_other slots i j slot other.1) (eqb_tells j i)
 
 -- a slot that a block was taken out of is vacant
 pub vacant-set : (slots : List Slot) (i : ℕ) → i < length slots → IsVacant (set_block slots i None) i
 vacant-set slots i within =
-    let slot : Slot = record (slice_index_or slots i no_slot) { block = None } in
+    let slot : Slot = record (slice_index_or slots i no_slot) { content = content_of None } in
     (subst (λ (n : ℕ). i < n) (sym (length-set slots i slot)) within, block-set_same slots i slot within)
 
 -- a slot gives its block away once more: its age is one more
 pub aged-set :
-    (slots : List Slot) (i : ℕ) (slot old : Slot) → i < length slots → old ≡ slice_index_or slots i old → slot.block ≡ old.block
+    (slots : List Slot) (i : ℕ) (slot old : Slot) → i < length slots → old ≡ slice_index_or slots i old → block_in slot ≡ block_in old
     → slot.age ≡ (old.age + 1) % 2 ^ 32 → HasAged slots i (slice_set slots i slot)
 aged-set slots i slot old within is same older =
     let here : old ≡ slice_index_or slots i no_slot = get_or_read slots i old within is no_slot in
-    let block : slot.block ≡ block_at slots i = same ∙ ap (λ (s : Slot). s.block) here in
+    let block : block_in slot ≡ block_at slots i = same ∙ ap block_in here in
     record {
       count = length-set slots i slot;
       blocks = same-blocks slots i slot within block;

@@ -19,12 +19,12 @@ use Rattle.block_cache.proofs.CacheLemmas.{all-back}
 use Rattle.balloc_c.specs.declared.kept.Kept.{Kept}
 use Rattle.balloc_c.specs.declared.kept.Kept.TheVariants as kept
 use Rattle.balloc_c.specs.declared.table.Slot.{Slot}
-use Rattle.balloc_c.specs.Kept.{block_of}
-use Rattle.balloc_c.specs.Slots.{IsVacant, block_at, blocks_of, lots_of, no_slot, set_block, with_block}
+use Rattle.balloc_c.specs.Kept.{block_of, content_of}
+use Rattle.balloc_c.specs.Slots.{IsVacant, block_at, block_in, blocks_of, lots_of, no_slot, set_block, with_block}
 use Rattle.balloc_c.specs.Tended.{HasAll, Stands, Tends, at_home}
 use Rattle.balloc_c.proofs.AllBlocks.{all-home, from-front, to-front}
 use Rattle.balloc_c.proofs.Going.{Goes, stands-on}
-use Rattle.balloc_c.proofs.Slots.{about, about-set, block-set_other, block-set_same, by_case, vacant-set, whole-at}
+use Rattle.balloc_c.proofs.Slots.{about, about-put, block-set_other, block-set_same, by_case, vacant-set, whole-at}
 
 -- the blocks in slots, by one slot and those about it
 abbrev front_of : List Slot → ℕ → List Block
@@ -42,14 +42,14 @@ lots-at slots i block within is =
 lots-bare :
     (slots : List Slot) (i : ℕ) → i < length slots → lots_of (set_block slots i None) ≡ front_of slots i ++ back_of slots i
 lots-bare slots i within =
-    ap (map block_of) (about-set slots i (record (slice_index_or slots i no_slot) { block = None }) within)
+    ap (map block_of) (about-put slots i None within)
     ∙ map-append block_of (blocks_of (take i slots)) (blocks_of (drop (i + 1) slots))
 
 lots-set :
     (slots : List Slot) (i : ℕ) (block : Kept) → i < length slots
     → lots_of (set_block slots i (Some block)) ≡ front_of slots i ++ block_of block ∷ back_of slots i
 lots-set slots i block within =
-    ap (map block_of) (about-set slots i (record (slice_index_or slots i no_slot) { block = Some block }) within)
+    ap (map block_of) (about-put slots i (Some block) within)
     ∙ map-append block_of (blocks_of (take i slots)) (block ∷ blocks_of (drop (i + 1) slots))
 
 lots-vacant : (slots : List Slot) (i : ℕ) → IsVacant slots i → lots_of slots ≡ front_of slots i ++ back_of slots i
@@ -92,7 +92,7 @@ lot-at P [] i block all is = absurd (none-some block is)
 lot-at P (slot ∷ slots) zero block all is =
     All-head P (block_of block) (map block_of (blocks_of slots))
     (subst (λ (s : Option Kept). All P (map block_of (with_block s (blocks_of slots)))) is all)
-lot-at P (slot ∷ slots) (suc i) block all is = lot-at P slots i block (all-behind P slot.block (blocks_of slots) all) is
+lot-at P (slot ∷ slots) (suc i) block all is = lot-at P slots i block (all-behind P (block_in slot) (blocks_of slots) all) is
 
 all-of : (P : Block → Type 0) (xs ys : List Block) → All P (xs ++ ys) → All P xs
 all-of P [] ys all = All-nil P
@@ -128,7 +128,7 @@ apart-at h c slots i j block other tends idle within is ne there =
     let held = (all.at_rest idle).0 in
     let P : Block → Type 0 = λ x. x.place ≢ (block_of block).place in
     lot-at P (set_block slots i None) j other (all-of P (lots_of (set_block slots i None)) (cached_in c) held.1)
-    (block-set_other slots i j (record (slice_index_or slots i no_slot) { block = None }) ne ∙ there)
+    (block-set_other slots i j (record (slice_index_or slots i no_slot) { content = content_of None }) ne ∙ there)
 
 -- the cache tends a table that has the same blocks
 pub same-tends :
@@ -147,7 +147,7 @@ pub filled-tends :
     → Goes h c d (lots_of slots) (block ∷ lots_of slots) → IsHome d.pass block.place → blocks_of middle ≡ blocks_of slots
     → ((j : ℕ) → block_at middle j ≡ block_at slots j) → IsVacant middle i → after ≡ set_block middle i (Some (kept.Home block)) → Tends h d after
 filled-tends h c d slots middle after i block tends is goes home blocks same vacant set =
-    let slot : Slot = record (slice_index_or middle i no_slot) { block = Some (kept.Home block) } in
+    let slot : Slot = record (slice_index_or middle i no_slot) { content = content_of (Some (kept.Home block)) } in
     record {
       cache = is;
       all = subst (λ (l : List Slot). HasAll h d.pass (lots_of l ++ cached_in d)) (sym set)
@@ -169,7 +169,7 @@ pub gone-tends :
     → ((j : ℕ) → block_at after j ≡ block_at middle j) → IsCache h d
     → ((held : List Block) → Goes h c d (block_of was ∷ held) held) → Tends h d after
 gone-tends h c d slots middle after i was tends within is set blocks same cache goes =
-    let none : Slot = record (slice_index_or slots i no_slot) { block = None } in
+    let none : Slot = record (slice_index_or slots i no_slot) { content = content_of None } in
     let bare = set_block slots i None in
     let went = goes (lots_of bare) in
     record {
@@ -190,10 +190,10 @@ pub back-tends :
     → block_at slots i ≡ Some (kept.Home block) → middle ≡ set_block slots i None → after ≡ set_block middle i (Some (kept.Home back)) → IsCache h d
     → ((held : List Block) → Goes h c d (block ∷ held) (back ∷ held)) → IsHome d.pass back.place → Tends h d after
 back-tends h c d slots middle after i block back tends within is out_is back_is cache goes home =
-    let none : Slot = record (slice_index_or slots i no_slot) { block = None } in
+    let none : Slot = record (slice_index_or slots i no_slot) { content = content_of None } in
     let bare = set_block slots i None in
     let vacant = vacant-set slots i within in
-    let some_block : Slot = record (slice_index_or bare i no_slot) { block = Some (kept.Home back) } in
+    let some_block : Slot = record (slice_index_or bare i no_slot) { content = content_of (Some (kept.Home back)) } in
     let whole : after ≡ set_block bare i (Some (kept.Home back)) = back_is ∙ ap (λ (l : List Slot). set_block l i (Some (kept.Home back))) out_is in
     let went = goes (lots_of bare) in
     record {
@@ -217,8 +217,8 @@ with-none (Some block) blocks none = absurd (let no : block ∷ blocks ≡ [] = 
 
 pub bare-at : (slots : List Slot) (i : ℕ) → blocks_of slots ≡ [] → block_at slots i ≡ None
 bare-at [] i bare = refl
-bare-at (slot ∷ slots) zero bare = (with-none slot.block (blocks_of slots) bare).0
-bare-at (slot ∷ slots) (suc i) bare = bare-at slots i (with-none slot.block (blocks_of slots) bare).1
+bare-at (slot ∷ slots) zero bare = (with-none (block_in slot) (blocks_of slots) bare).0
+bare-at (slot ∷ slots) (suc i) bare = bare-at slots i (with-none (block_in slot) (blocks_of slots) bare).1
 
 -- a cache that tends no block holds none, and the other way round
 pub bare-holds : (h : HeapFields) (c : Cache) (slots : List Slot) → Tends h c slots → IsIdle c.pass.errand → blocks_of slots ≡ [] → HoldsCached c []

@@ -30,7 +30,7 @@ use Rattle.balloc_c.specs.declared.table.Table.{Table}
 use Rattle.balloc_c.specs.Census.{IsCountOf}
 use Rattle.balloc_c.specs.Codes.{code_in}
 use Rattle.balloc_c.specs.Outcomes.{Answers, Makes, barred, counts_of, is_busy}
-use Rattle.balloc_c.specs.Slots.{blocks_of}
+use Rattle.balloc_c.specs.Slots.{block_in, blocks_of}
 use Rattle.balloc_c.specs.Through.{IsFlush, IsFree}
 
 -- words that the pass kept have come home: each was written with 0
@@ -86,7 +86,7 @@ Empties c t (Err cause) d u = ⊥
 -- the words of one of the blocks are out with C
 abbrev pub has_out : List Slot → Bool
 has_out [] = false
-has_out (slot ∷ slots) = if is_out slot.block then true else has_out slots
+has_out (slot ∷ slots) = if is_out (block_in slot) then true else has_out slots
 
 -- what bars it
 abbrev pub leave_bar : Pass → Table → Option Refusal

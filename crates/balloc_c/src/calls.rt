@@ -321,10 +321,7 @@ pub fn words(table: &Table, number: u64) -> Result<u64, Refusal>
     let Some(index) = table.find(number) else {
         return Err(Refusal::NoBlock);
     };
-    match table.block(index) {
-        Some(block) => Ok(u64::from(block.usable_words())),
-        None => Err(Refusal::NoBlock),
-    }
+    Ok(u64::from(table.content(index).usable_words()))
 }
 
 /// Writes a word of the block of this number.

@@ -12,7 +12,7 @@ ghost use Rattle.balloc_c.specs.declared.lent.LentBlock.{LentBlock as Out};
 ghost use Rattle.balloc_c.specs.declared.refusal.Refusal.TheVariants as refusal;
 ghost use Rattle.balloc_c.specs.declared.table.TheConstants.{NONE};
 
-use crate::kept::Kept;
+use crate::kept::{Content, Kept};
 use crate::laid::Laid;
 use crate::lent::LentBlock;
 use crate::refusal::Refusal;
@@ -43,7 +43,7 @@ fn is_small(need: Need, class: u8) -> bool
 /// A slot for a block.
 #[derive(Drop)]
 pub struct Slot {
-    block: Option<Kept>,
+    content: Content,
     /// How often the slot has given a block away, modulo 2^32.
     age: u32,
     /// The slot that was spare before this one.
@@ -53,21 +53,18 @@ pub struct Slot {
 }
 
 impl Slot {
-    ghost use Rattle.balloc_c.specs.Kept.{block_of, memory_of};
+    ghost use Rattle.balloc_c.specs.Kept.{block_of, kept_in, memory_of};
 
     /// Its block, whose words are home, rests here, and no number names it any more.
     #[inline(always)]
     fn rest(&mut self, after: u64)
-        requires { (block : Block) × (self.old.block ≡ Some (kept.Home block)) }
-        ensures rests { (block : Block) × (self.old.block ≡ Some (kept.Home block)) × (self.new.block ≡ Some (kept.Resting block)) }
+        requires { (block : Block) × (kept_in self.old.content ≡ Some (kept.Home block)) }
+        ensures rests { (block : Block) × (kept_in self.old.content ≡ Some (kept.Home block)) × (kept_in self.new.content ≡ Some (kept.Resting block)) }
         ensures age { self.new.age ≡ (self.old.age + 1) % 2 ^ 32 }
         ensures next { self.new.next ≡ self.old.next }
         ensures after { self.new.after ≡ after }
     {
-        match std::mem::replace(&mut self.block, None) {
-            Some(Kept::Home(block)) => self.block = Some(Kept::Resting(block)),
-            _ => unreachable!(),
-        }
+        self.content = std::mem::replace(&mut self.content, Content::Vacant).rested();
         self.age = self.age.wrapping_add(1);
         self.after = after;
     }
@@ -75,30 +72,27 @@ impl Slot {
     /// The block that rests here has a number again.
     #[inline(always)]
     fn wake(&mut self)
-        requires { (block : Block) × (self.old.block ≡ Some (kept.Resting block)) }
-        ensures woken { (block : Block) × (self.old.block ≡ Some (kept.Resting block)) × (self.new.block ≡ Some (kept.Home block)) }
+        requires { (block : Block) × (kept_in self.old.content ≡ Some (kept.Resting block)) }
+        ensures woken { (block : Block) × (kept_in self.old.content ≡ Some (kept.Resting block)) × (kept_in self.new.content ≡ Some (kept.Home block)) }
         ensures age { self.new.age ≡ self.old.age }
         ensures next { self.new.next ≡ self.old.next }
         ensures after { self.new.after ≡ self.old.after }
     {
-        match std::mem::replace(&mut self.block, None) {
-            Some(Kept::Resting(block)) => self.block = Some(Kept::Home(block)),
-            _ => unreachable!(),
-        }
+        self.content = std::mem::replace(&mut self.content, Content::Vacant).woken();
     }
 
     /// The words of its block, which were out, are kept here, and no number names it any more.
     #[inline(always)]
     fn lay(&mut self, after: u64, words: PlainWords)
-        requires { (lent : Out) × (self.old.block ≡ Some (kept.Out lent)) }
-        ensures laid { (lent : Out) × (self.old.block ≡ Some (kept.Out lent)) × (self.new.block ≡ Some (kept.Laid (memory_of lent words))) }
+        requires { (lent : Out) × (kept_in self.old.content ≡ Some (kept.Out lent)) }
+        ensures laid { (lent : Out) × (kept_in self.old.content ≡ Some (kept.Out lent)) × (kept_in self.new.content ≡ Some (kept.Laid (memory_of lent words))) }
         ensures age { self.new.age ≡ (self.old.age + 1) % 2 ^ 32 }
         ensures next { self.new.next ≡ self.old.next }
         ensures after { self.new.after ≡ after }
     {
-        match std::mem::replace(&mut self.block, None) {
-            Some(Kept::Out(lent)) => {
-                self.block = Some(Kept::Laid(Memory::of_words(lent.place, lent.need, words)));
+        match std::mem::replace(&mut self.content, Content::Vacant) {
+            Content::Out(lent) => {
+                self.content = Content::Laid(Memory::of_words(lent.place, lent.need, words));
             }
             _ => unreachable!(),
         }
@@ -109,16 +103,16 @@ impl Slot {
     /// The words that are kept here go out.
     #[inline(always)]
     fn lift(&mut self) -> Memory
-        requires { (memory : Memory) × (self.old.block ≡ Some (kept.Laid memory)) }
-        ensures laid { self.old.block ≡ Some (kept.Laid result) }
-        ensures out { (lent : Out) × (self.new.block ≡ Some (kept.Out lent)) × (block_of (kept.Out lent) ≡ result.block) }
+        requires { (memory : Memory) × (kept_in self.old.content ≡ Some (kept.Laid memory)) }
+        ensures laid { kept_in self.old.content ≡ Some (kept.Laid result) }
+        ensures out { (lent : Out) × (kept_in self.new.content ≡ Some (kept.Out lent)) × (block_of (kept.Out lent) ≡ result.block) }
         ensures age { self.new.age ≡ self.old.age }
         ensures next { self.new.next ≡ self.old.next }
         ensures after { self.new.after ≡ self.old.after }
     {
-        match std::mem::replace(&mut self.block, None) {
-            Some(Kept::Laid(memory)) => {
-                self.block = Some(Kept::Out(LentBlock::new(memory.place(), memory.need())));
+        match std::mem::replace(&mut self.content, Content::Vacant) {
+            Content::Laid(memory) => {
+                self.content = Content::Out(LentBlock::new(memory.place(), memory.need()));
                 memory
             }
             _ => unreachable!(),
@@ -138,7 +132,7 @@ pub struct Table {
 }
 
 impl Table {
-    ghost use Rattle.balloc_c.specs.Kept.{block_of, is_laid, is_out, memory_of, seen};
+    ghost use Rattle.balloc_c.specs.Kept.{block_of, is_laid, is_out, kept_in, memory_of, seen};
     ghost use Rattle.balloc_c.specs.Laid.{HasRoomFor, HasTurned, IsGivenAgain, IsKeptAt, IsReady, IsReadyIn, first_of, room_of, slot_of};
     ghost use Rattle.balloc_c.specs.Numbers.{NamesOneLess, NamesOneMore, HasSpare, HasSlotReady, KeepsNumbers, named, number_at};
     ghost use Rattle.balloc_c.specs.Slots.{IsVacant, HasAged, after_at, block_at, blocks_of, next_at, set_block};
@@ -213,7 +207,7 @@ impl Table {
             return Err(Refusal::NoMemory);
         }
         let slot = Slot {
-            block: None,
+            content: Content::Vacant,
             age: 0,
             next: self.spare,
             after: 0,
@@ -260,12 +254,12 @@ impl Table {
             × (block_at self.now.slots.items index ≢ None) }
         ensures no { result ≡ false → seen (block_at self.now.slots.items index) ≡ None }
     {
-        match &self.slots[index].block {
-            Some(Kept::Home(_)) => true,
-            Some(Kept::Out(_)) => true,
-            Some(Kept::Resting(_)) => false,
-            Some(Kept::Laid(_)) => false,
-            None => false,
+        match &self.slots[index].content {
+            Content::Vacant => false,
+            Content::Home(_) => true,
+            Content::Out(_) => true,
+            Content::Resting(_) => false,
+            Content::Laid(_) => false,
         }
     }
 
@@ -274,7 +268,7 @@ impl Table {
         requires { index < length self.now.slots.items }
         ensures { result ≡ is_laid (block_at self.now.slots.items index) }
     {
-        matches!(&self.slots[index].block, Some(Kept::Laid(_)))
+        matches!(&self.slots[index].content, Content::Laid(_))
     }
 
     /// The block in a slot, whose words are home.
@@ -284,18 +278,19 @@ impl Table {
         requires home { (block : Block) × (block_at self.now.slots.items index ≡ Some (kept.Home block)) }
         ensures { block_at self.now.slots.items index ≡ Some (kept.Home result.now) }
     {
-        match &self.slots[index].block {
-            Some(Kept::Home(block)) => block,
+        match &self.slots[index].content {
+            Content::Home(block) => block,
             _ => unreachable!(),
         }
     }
 
-    /// The block in a slot, if there is one.
-    pub fn block(&self, index: usize) -> &Option<Kept>
+    /// What lies in a slot.
+    #[inline(always)]
+    pub fn content(&self, index: usize) -> &Content
         requires { index < length self.now.slots.items }
-        ensures { result.now ≡ block_at self.now.slots.items index }
+        ensures { kept_in result.now ≡ block_at self.now.slots.items index }
     {
-        &self.slots[index].block
+        &self.slots[index].content
     }
 
     /// Whether the words of the block in a slot are out.
@@ -303,7 +298,7 @@ impl Table {
         requires { index < length self.now.slots.items }
         ensures { result ≡ is_out (block_at self.now.slots.items index) }
     {
-        matches!(&self.slots[index].block, Some(Kept::Out(_)))
+        matches!(&self.slots[index].content, Content::Out(_))
     }
 
     /// What is known of the block in a slot, where its words are out.
@@ -312,8 +307,8 @@ impl Table {
         ensures out { IfSome result (λ lent. block_at self.now.slots.items index ≡ Some (kept.Out lent.now)) }
         ensures home { result ≡ None → is_out (block_at self.now.slots.items index) ≡ false }
     {
-        match &self.slots[index].block {
-            Some(Kept::Out(lent)) => Some(lent),
+        match &self.slots[index].content {
+            Content::Out(lent) => Some(lent),
             _ => None,
         }
     }
@@ -370,7 +365,7 @@ impl Table {
         ensures laid { self.new.laid ≡ self.old.laid }
         ensures value { result ≡ block_at self.old.slots.items index }
     {
-        std::mem::replace(&mut self.slots[index].block, block)
+        std::mem::replace(&mut self.slots[index].content, Content::of(block)).into_kept()
     }
 
     /// Puts a block into the spare slot, and answers its number.
@@ -435,10 +430,7 @@ impl Table {
         requires { index < length self.now.slots.items }
         ensures { result ≡ true → (block : Block) × (block_at self.now.slots.items index ≡ Some (kept.Home block)) }
     {
-        let Some(kept) = self.block(index) else {
-            return false;
-        };
-        matches!(kept, Kept::Home(_))
+        matches!(self.content(index), Content::Home(_))
     }
 
     /// The class of the block in a slot, whose words are home, where the pass has room for it.
@@ -511,10 +503,7 @@ impl Table {
         if !self.is_aged(index, first) {
             return false;
         }
-        let Some(kept) = self.block(index) else {
-            return false;
-        };
-        let Kept::Resting(block) = kept else {
+        let Content::Resting(block) = self.content(index) else {
             return false;
         };
         is_small(block.need(), class)
@@ -533,8 +522,8 @@ impl Table {
             × IsGivenAgain self.old class result (kept.Home block) self.new }
     {
         let number = self.resting.first(class);
-        self.slots[index].wake();
         let after = self.after(index);
+        self.slots[index].wake();
         self.resting.lift(class, after);
         number
     }
@@ -612,10 +601,7 @@ impl Table {
         if !self.is_aged(index, first) {
             return false;
         }
-        let Some(kept) = self.block(index) else {
-            return false;
-        };
-        let Kept::Laid(memory) = kept else {
+        let Content::Laid(memory) = self.content(index) else {
             return false;
         };
         is_small(memory.need(), class)
@@ -635,8 +621,8 @@ impl Table {
             × IsGivenAgain self.old class result.0 (kept.Out lent) self.new }
     {
         let number = self.laid.first(class);
-        let memory = self.slots[index].lift();
         let after = self.after(index);
+        let memory = self.slots[index].lift();
         self.laid.lift(class, after);
         (number, memory)
     }

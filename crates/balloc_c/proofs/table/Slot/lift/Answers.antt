@@ -10,5 +10,5 @@ returns-clause-out c =
     let lent : LentBlock = c.new.result in (
       lent,
       refl,
-      block-same (block_of (kept.Out lent)) c.in-Some-Laid.memory.block (c.new.ensures.0 ∙ c.place.ensures) (c.new.ensures.1 ∙ c.need.ensures),
+      block-same (block_of (kept.Out lent)) c.in-Laid.memory.block (c.new.ensures.0 ∙ c.place.ensures) (c.new.ensures.1 ∙ c.need.ensures),
     )

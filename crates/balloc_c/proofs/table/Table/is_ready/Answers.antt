@@ -1,7 +1,7 @@
-use Rattle.std.proofs.Common.{ℕ, ◌≡◌, ◌%◌, ◌^◌, Some, sym, ap, ◌∙◌}
+use Rattle.std.proofs.Common.{ℕ, ◌≡◌, ◌%◌, ◌^◌, sym, ap, ◌∙◌}
 use Rattle.live_heap.specs.declared.plain.Memory.{Memory}
-use Rattle.balloc_c.specs.declared.kept.Kept.{Kept}
 use Rattle.balloc_c.specs.declared.kept.Kept.TheVariants as kept
+use Rattle.balloc_c.specs.Kept.{kept_in}
 use Rattle.balloc_c.specs.Laid.{slot_of}
 use Rattle.balloc_c.specs.Numbers.{number_at}
 use Rattle.balloc_c.specs.Slots.{block_at}
@@ -24,8 +24,7 @@ returns-clause-yes c told =
       c.in-Laid.memory,
       record {
         serves = sym c.need.ensures ∙ c.is_small.ensures.yes told;
-        there = ap (block_at t.slots.items) (sym at) ∙ sym c.block.ensures ∙ c.in-Some.is
-            ∙ ap (λ (k : Kept). Some k) c.in-Laid.is;
+        there = ap (block_at t.slots.items) (sym at) ∙ sym c.content.ensures ∙ ap kept_in c.in-Laid.is;
         number = ap (number_at t) (sym at) ∙ (c.is_aged.ensures.yes c.if-not-is_aged.false).1 ∙ c.requires.first;
       },
     )
@@ -35,6 +34,6 @@ returns-clause-no c told memory ready =
     let t = c.args.self.now in
     let at : c.args.index ≡ slot_of t.laid c.args.class = c.requires.at ∙ ap (λ (n : ℕ). n % 2 ^ 32) c.requires.first in
     let there = ap (block_at t.slots.items) at ∙ ready.there in
-    let read = sym c.block.ensures ∙ c.in-Some.is ∙ ap (λ (k : Kept). Some k) c.in-Laid.is in
+    let read = sym c.content.ensures ∙ ap kept_in c.in-Laid.is in
     let same : memory ≡ c.in-Laid.memory = same-laid memory c.in-Laid.memory (sym there ∙ read) in
     c.is_small.ensures.no told (c.need.ensures ∙ ap (λ (m : Memory). m.block.need) (sym same) ∙ ready.serves)

@@ -7,7 +7,7 @@ use Rattle.balloc_c.specs.declared.table.Table.{Table}
 use Rattle.balloc_c.specs.Laid.{HasTurned, IsReadyIn, slot_of}
 use Rattle.balloc_c.specs.Numbers.{NamesOneMore, number_at}
 use Rattle.balloc_c.specs.Slots.{after_at, age_at, block_at}
-use Rattle.balloc_c.proofs.LaidLemmas.{after-read, after-set_same, age-read, ages-kept, block-read, lifts-more, turned-at, turned-packed}
+use Rattle.balloc_c.proofs.LaidLemmas.{age-read, ages-kept, block-read, lifts-more, turned-at, turned-packed}
 use Rattle.balloc_c.proofs.LendingLemmas.{same-resting}
 use Rattle.balloc_c.proofs.Tending.{within-of}
 use Rattle.balloc_c.proofs.table.Table.wake.Goals as goal
@@ -78,7 +78,6 @@ returns-clause-woken c =
         first = c.first-number.ensures;
         more = subst (λ (n : ℕ). NamesOneMore t n (kept.Home woken.0) u) number more;
         left = c.lift.ensures.room;
-        next = c.lift.ensures.first ∙ c.after-after.ensures ∙ after-set_same slots i new within ∙ c.wake.ensures.after
-            ∙ sym (after-read slots i old within c.index_mut.ensures.value) ∙ ap (after_at slots) at;
+        next = c.lift.ensures.first ∙ c.after-after.ensures ∙ ap (after_at slots) at;
       },
     )
