@@ -3,7 +3,6 @@ use Rattle.std.specs.Prelude.{ℕ, ◌≡◌, ◌≢◌, ◌<◌, ◌+◌, ◌%�
 use Rattle.heap_geometry.specs.declared.limits.TheConstants.{CLASSES}
 use Rattle.heap_geometry.specs.declared.need.Need.{Need}
 use Rattle.heap_geometry.specs.declared.need.Need.TheVariants.{Small}
-use Rattle.live_heap.specs.declared.block.Block.{Block}
 use Rattle.balloc_c.specs.declared.kept.Kept.{Kept}
 use Rattle.balloc_c.specs.declared.kept.Kept.TheVariants as kept
 use Rattle.balloc_c.specs.declared.laid.Laid.{Laid}
@@ -51,16 +50,15 @@ pub record HasRoomFor (t : Table) (slot : Option Kept) : Type 0 where
   pub small : (block_of it).need ≡ Small class
   pub some : 0 < room_of (like t it) class
 
--- a free of the block of this number keeps it in its slot: its words are home, and there is room for one more of its class
-pub record IsKeptAt (t : Table) (number index class : ℕ) : Type 0 where
+-- a free of what this number names keeps it in its slot: there is room for one more of its class
+pub record IsKeptAt (t : Table) (number index class : ℕ) (it : Kept) : Type 0 where
   pub within : index < length t.slots.items
   pub is : index ≡ number % 2 ^ 32
-  pub block : Block
-  pub here : block_at t.slots.items index ≡ Some (kept.Home block)
-  pub names : named t number ≡ Some (kept.Home block)
-  pub small : block.need ≡ Small class
+  pub here : block_at t.slots.items index ≡ Some it
+  pub names : named t number ≡ Some it
+  pub small : (block_of it).need ≡ Small class
   pub bound : class < CLASSES
-  pub some : 0 < room_of t.resting class
+  pub some : 0 < room_of (like t it) class
 
 -- what was kept is given again, as this, under the number that was first, which named none: there is room for one more of its class, and the number that its slot has is the next
 pub record IsGivenAgain (t : Table) (class number : ℕ) (it : Kept) (u : Table) : Type 0 where

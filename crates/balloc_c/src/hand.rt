@@ -148,8 +148,8 @@ impl Hand {
         lending::memory(self.heap.heap(), &mut self.cache, &mut self.table, number)
     }
 
-    /// Frees the block of this number, for which words that are out come back. Where its words are home and the pass keeps it, it
-    /// is freed here, with no call; else by a function of its own, so that what that needs costs nothing here.
+    /// Frees the block of this number, for which words that are out come back. Where the pass keeps it, it is freed here, with no
+    /// call; else by a function of its own, so that what that needs costs nothing here.
     #[inline(always)]
     pub fn free(&mut self, number: u64, back: Handed) -> Handed
         requires back { IsBackFor (heap_of self.old) (named self.old.table number) back.words }
@@ -166,6 +166,29 @@ impl Hand {
                 index,
                 class,
                 number,
+            ),
+            None => self.free_out(number, back),
+        }
+    }
+
+    /// The same free, of a block whose words are out or that the pass doesn't keep.
+    #[inline(always)]
+    fn free_out(&mut self, number: u64, back: Handed) -> Handed
+        requires back { IsBackFor (heap_of self.old) (named self.old.table number) back.words }
+        requires code { back.code ≡ word_of (code_of refusal.InCall) }
+        ensures { (outcome : Result (Unit {0}) Refusal) × (result.code ≡ word_in outcome) × StayOut outcome result.words
+            × Makes (λ c t answer d u. FreesBack (heap_of self.old) c t number back.words answer result.words d u) self.old outcome self.new }
+    {
+        self.tended();
+        match lending::next_laid(&self.cache, &self.table, number) {
+            Some((index, class)) => lending::free_out_here(
+                self.heap.heap(),
+                &self.cache,
+                &mut self.table,
+                index,
+                class,
+                number,
+                back,
             ),
             None => self.free_away(number, back),
         }

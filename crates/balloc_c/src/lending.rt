@@ -169,7 +169,7 @@ pub fn free_back(
 /// pass has room for it.
 #[inline(always)]
 pub fn next_kept(cache: &Cache, table: &Table, number: u64) -> Option<(usize, u8)>
-    ensures { IfSome result (λ next. IsIdle cache.now.pass.errand × IsKeptAt table.now number next.0 next.1) }
+    ensures { IfSome result (λ next. IsIdle cache.now.pass.errand × (block : Block) × IsKeptAt table.now number next.0 next.1 (kept.Home block)) }
 {
     if !cache.idle() {
         return None;
@@ -190,7 +190,7 @@ pub fn free_here(
     requires tends { Tends _heap.now _cache.now table.old.slots.items }
     requires packed { IsPacked table.old }
     requires idle { IsIdle _cache.now.pass.errand }
-    requires at { IsKeptAt table.old number index class }
+    requires at { (block : Block) × IsKeptAt table.old number index class (kept.Home block) }
     ensures tends { Tends _heap.now _cache.now table.new.slots.items }
     ensures packed { IsPacked table.new }
     ensures count { length table.new.slots.items ≡ length table.old.slots.items }
@@ -199,6 +199,45 @@ pub fn free_here(
     ensures kept { KeepsBack _cache.now table.old number None (Ok tt) None _cache.now table.new }
 {
     table.rest(index, class, number);
+    Handed::none(MADE)
+}
+
+/// The slot and the class of the block of this number, where a free keeps its words: no call is under way, they are out, and the
+/// pass has room for them.
+#[inline(always)]
+pub fn next_laid(cache: &Cache, table: &Table, number: u64) -> Option<(usize, u8)>
+    ensures { IfSome result (λ next. IsIdle cache.now.pass.errand × (lent : Out) × IsKeptAt table.now number next.0 next.1 (kept.Out lent)) }
+{
+    if !cache.idle() {
+        return None;
+    }
+    table.at_out(number)
+}
+
+/// The free of a block whose words are out, which the pass keeps as they are.
+#[inline(always)]
+pub fn free_out_here(
+    _heap: &Heap,
+    _cache: &Cache,
+    table: &mut Table,
+    index: usize,
+    class: u8,
+    number: u64,
+    back: Handed,
+) -> Handed
+    requires tends { Tends _heap.now _cache.now table.old.slots.items }
+    requires packed { IsPacked table.old }
+    requires idle { IsIdle _cache.now.pass.errand }
+    requires at { (lent : Out) × IsKeptAt table.old number index class (kept.Out lent)
+        × (words : Words) × (back.words ≡ Some words) × IsRoomFor _heap.now lent words }
+    ensures tends { Tends _heap.now _cache.now table.new.slots.items }
+    ensures packed { IsPacked table.new }
+    ensures count { length table.new.slots.items ≡ length table.old.slots.items }
+    ensures code { result.code ≡ 0 }
+    ensures words { result.words ≡ None }
+    ensures kept { KeepsBack _cache.now table.old number back.words (Ok tt) None _cache.now table.new }
+{
+    table.lay(index, class, number, back.into_words());
     Handed::none(MADE)
 }
 
@@ -256,10 +295,7 @@ fn free_lent(
         × FreesBack heap.now cache.old table.old number back.words outcome result.words cache.new table.new }
 {
     match table.room(index) {
-        Some(class) => {
-            table.lay(index, class, number, back.into_words());
-            Handed::none(word(Ok(())))
-        }
+        Some(class) => free_out_here(heap, cache, table, index, class, number, back),
         None => Handed::none(word(free_out(heap, cache, table, index, number, back))),
     }
 }

@@ -409,7 +409,7 @@ impl Table {
     /// The slot and the class of the block of this number, where its words are home and the pass has room for it.
     #[inline(always)]
     pub fn at_home(&self, number: u64) -> Option<(usize, u8)>
-        ensures { IfSome result (λ next. IsKeptAt self.now number next.0 next.1) }
+        ensures { IfSome result (λ next. (block : Block) × IsKeptAt self.now number next.0 next.1 (kept.Home block)) }
     {
         let index = (number % 0x1_0000_0000) as usize;
         if !self.is_aged(index, number) {
@@ -526,6 +526,24 @@ impl Table {
         self.slots[index].wake();
         self.resting.lift(class, after);
         number
+    }
+
+    /// The slot and the class of the block of this number, where its words are out and the pass has room for them.
+    #[inline(always)]
+    pub fn at_out(&self, number: u64) -> Option<(usize, u8)>
+        ensures { IfSome result (λ next. (lent : Out) × IsKeptAt self.now number next.0 next.1 (kept.Out lent)) }
+    {
+        let index = (number % 0x1_0000_0000) as usize;
+        if !self.is_aged(index, number) {
+            return None;
+        }
+        if !self.is_out(index) {
+            return None;
+        }
+        let Some(class) = self.room(index) else {
+            return None;
+        };
+        Some((index, class))
     }
 
     /// The class of the block in a slot, whose words are out, where the pass has room for them.

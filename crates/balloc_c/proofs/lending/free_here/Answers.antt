@@ -12,18 +12,19 @@ use Rattle.balloc_c.proofs.lending.free_here.Goals as goal
 
 pub rest-requires-clause-is : goal.rest-requires-clause-is
 rest-requires-clause-is c =
-    let at = c.requires.at in
+    let block = c.requires.at.0 in
+    let at = c.requires.at.1 in
     let t = c.args.table.now in
-    (at.is, ap (number_at t) at.is ∙ names-itself t c.args.number (λ none. some-not-none (kept.Home at.block) (sym at.names ∙ none)))
+    (at.is, ap (number_at t) at.is ∙ names-itself t c.args.number (λ none. some-not-none (kept.Home block) (sym at.names ∙ none)))
 
 pub rest-requires-clause-within : goal.rest-requires-clause-within
-rest-requires-clause-within c = c.requires.at.within
+rest-requires-clause-within c = c.requires.at.1.within
 
 pub rest-requires-clause-class : goal.rest-requires-clause-class
-rest-requires-clause-class c = (c.requires.at.bound, c.requires.at.some)
+rest-requires-clause-class c = (c.requires.at.1.bound, c.requires.at.1.some)
 
 pub rest-requires-clause-home : goal.rest-requires-clause-home
-rest-requires-clause-home c = (c.requires.at.block, c.requires.at.here, c.requires.at.small)
+rest-requires-clause-home c = (c.requires.at.0, c.requires.at.1.here, c.requires.at.1.small)
 
 pub returns-clause-tends : goal.returns-clause-tends
 returns-clause-tends c =
@@ -39,10 +40,11 @@ returns-clause-count c = c.rest.ensures.rests.2.count
 
 pub returns-clause-kept : goal.returns-clause-kept
 returns-clause-kept c =
-    let at = c.requires.at in
+    let block = c.requires.at.0 in
+    let at = c.requires.at.1 in
     let t = c.args.table.now in
     let rests = c.rest.ensures.rests in
-    let same : at.block ≡ rests.0 = same-home at.block rests.0 (sym at.here ∙ rests.1) in
+    let same : block ≡ rests.0 = same-home block rests.0 (sym at.here ∙ rests.1) in
     record {
       idle = c.requires.idle;
       room = record {
@@ -56,7 +58,7 @@ returns-clause-kept c =
       becomes = (refl, refl);
       made = refl;
       nothing = refl;
-      less = c.rest.ensures.less (λ none. some-not-none (kept.Home at.block) (sym at.names ∙ none));
+      less = c.rest.ensures.less (λ none. some-not-none (kept.Home block) (sym at.names ∙ none));
       ready = rests.3;
       fewer = c.rest.ensures.fewer;
       chain = subst (λ (k : ℕ). after_at c.rest.new.self.slots.items k ≡ first_of t.resting c.args.class) at.is c.rest.ensures.chain;

@@ -7,17 +7,18 @@ use Rattle.balloc_c.proofs.lending.free_whole.Goals as goal
 
 pub free_here-requires-clause-at : goal.free_here-requires-clause-at
 free_here-requires-clause-at c =
-    let room = c.in-Some.ensures.room in
-    record {
-      within = c.requires.within;
-      is = c.requires.is;
-      block = room.2.0;
-      here = room.2.1;
-      names = c.requires.named ∙ room.2.1;
-      small = room.2.2;
-      bound = room.0;
-      some = room.1;
-    }
+    let room = c.in-Some.ensures.room in (
+      room.2.0,
+      record {
+        within = c.requires.within;
+        is = c.requires.is;
+        here = room.2.1;
+        names = c.requires.named ∙ room.2.1;
+        small = room.2.2;
+        bound = room.0;
+        some = room.1;
+      },
+    )
 
 pub returns-in-Some-clause-few : goal.returns-in-Some-clause-few
 returns-in-Some-clause-few c = few-same c.args.table.now c.free_here.new.table c.free_here.ensures.count

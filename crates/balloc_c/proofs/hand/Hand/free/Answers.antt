@@ -9,7 +9,7 @@ pub returns-in-Some : goal.returns-in-Some
 returns-in-Some c =
     let hand = c.args.self.now in
     let r = c.free_here in
-    let at = c.in-Some.ensures.1 in
+    let at = c.in-Some.ensures.2 in
     let back = c.args.back.words in
     let nothing : back ≡ None = subst (λ slot. IsBackFor (heap_of hand) slot back) at.names c.requires.back in
     let left = subst (λ left. KeepsBack hand.cache hand.table c.args.number None (Ok tt) left hand.cache r.new.table) (sym r.ensures.words) r.ensures.kept in

@@ -1,0 +1,6 @@
+use Rattle.std.proofs.Common.{ℕ, sym, ◌∙◌}
+use Rattle.std.proofs.lemmas.Option.{IfSome_then}
+use Rattle.balloc_c.proofs.lending.next_kept.Goals as goal
+
+pub returns : goal.returns
+returns c = IfSome_then c.at_home.result c.at_home.ensures (λ (next : ℕ × ℕ) kept. (sym c.idle.ensures ∙ c.if-not-idle.false, kept.0, kept.1))
