@@ -76,6 +76,7 @@ fn go_on<R: Wait>(rt: &R, heap: &Heap, cache: &mut Cache, last: &mut u64) -> Res
 }
 
 /// Allocates a block, from its magazine or of the heap.
+#[inline(always)]
 fn allocate<R: Wait>(
     rt: &R,
     heap: &Heap,
@@ -105,6 +106,7 @@ fn allocate<R: Wait>(
 }
 
 /// Frees the caller's block, into its magazine or to the heap.
+#[inline(always)]
 fn free_block<R: Wait>(rt: &R, heap: &Heap, cache: &mut Cache, last: &mut u64, block: Block)
     requires rests { RestsAt heap.now cache.old }
     requires held { HoldsAt cache.old block.place block.need }
@@ -160,10 +162,12 @@ impl<'a> Calls for CachedCalls<'a> {
 
     ghost maker = { cache_maker };
 
+    #[inline(always)]
     fn allocate<R: Wait>(&mut self, rt: &R, need: u32) -> Allocated<Block> {
         allocate(rt, self.heap, self.cache, &mut self.last, need)
     }
 
+    #[inline(always)]
     fn free<R: Wait>(&mut self, rt: &R, held: Block) {
         free_block(rt, self.heap, self.cache, &mut self.last, held);
     }
