@@ -7,6 +7,8 @@ use std::thread;
 const THREADS: u64 = 8;
 const ROUNDS: u64 = 40;
 const KEYS: u64 = 2000;
+/// How many maps may wait for a receiver: so what is live at once is told by the program, and not by the threads' turns.
+const WAITING: usize = 2;
 
 /// The words that a key has in a round.
 fn words(key: u64, round: u64) -> Vec<String> {
@@ -25,7 +27,7 @@ fn sum_of(maps: mpsc::Receiver<BTreeMap<u64, Vec<String>>>) -> usize {
 }
 
 fn main() {
-    let (to_all, from_all): (Vec<_>, Vec<_>) = (0..THREADS).map(|_| mpsc::channel()).unzip();
+    let (to_all, from_all): (Vec<_>, Vec<_>) = (0..THREADS).map(|_| mpsc::sync_channel(WAITING)).unzip();
     let receivers: Vec<_> = from_all.into_iter().map(|maps| thread::spawn(move || sum_of(maps))).collect();
     let senders: Vec<_> = to_all
         .into_iter()
